@@ -1,0 +1,5 @@
+pub mod Mapping
+pub mod Term
+pub mod Columns
+pub mod WellFormed
+pub mod Rules

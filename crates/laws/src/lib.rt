@@ -1,0 +1,1 @@
+// Definitions and laws over lists, tests and numbers that every other crate cites. No code.
