@@ -1,0 +1,89 @@
+-- Document 01's "Checking": the two passes as lists of faults in the paper's order; the refusal is the first. w is the number of columns.
+use mathlib.Core.Bool.{Bool, true, false, not, _&&_, _||_}
+use mathlib.Core.List.{List, [], _∷_, _++_}
+use Prim.Native.Nat.{ℕ, zero, suc, _+_}
+use lib.Dec.{ltb}
+use Rattle.laws.specs.Lists.{if_then_else_, _==_, every, all, member}
+use Rattle.algebra.specs.declared.Pairing.{Pairing}
+use Rattle.algebra.specs.declared.Pairing.the-variants.{Union, Join, Except}
+use Rattle.algebra.specs.Term.{Term, table, var, fact, pair, filter, copy, drop, fix}
+use Rattle.algebra.specs.Columns.{Cols, noCols, Schema, cols, free, isClosed, size, fixNumbers, named}
+use Rattle.database.specs.declared.Database.{Database}
+use Rattle.database.specs.declared.Refusal.{Refusal}
+use Rattle.database.specs.declared.Refusal.the-variants.{Scope, OpenExcept, OpenJoin, OpenFix, HalfOpen, ColumnFault, NoTable}
+use Rattle.database.specs.Stored.{schema, checkDatabase}
+use Rattle.database.specs.Refusals.{Reply, accepted, noFault, _>>=_}
+use Rattle.query.specs.declared.Query.{Query}
+use Rattle.query.specs.Lines.{nodes, checkForm, termOf}
+
+-- a fault where a test fails
+unfoldable pub unless : Bool → Refusal → List Refusal
+unless true r = []
+unless false r = r ∷ []
+
+-- 5, 6, 8 at a pair at node n, whose sides are closed or not
+abbrev pub pairFaults : Pairing → Bool → Bool → ℕ → List Refusal
+pairFaults Union left right n = unless (left == right) (HalfOpen n)
+pairFaults Join left right n = unless (left || right) (OpenJoin n)
+pairFaults Except left right n = unless right (OpenExcept n)
+
+-- "First pass, lowest node first, then lowest number: 4 to 8." The term's lines follow n others; around: the numbers of the fixes in
+-- whose step it lies; taken: those of the fixes of lower nodes.
+unfoldable pub firstPass : Term → List ℕ → List ℕ → ℕ → List Refusal
+firstPass (table t) around taken n = []
+firstPass (var v) around taken n = unless (member v around) (Scope (n + 1))
+firstPass (fact c x) around taken n = []
+firstPass (pair o a b) around taken n =
+    firstPass a around taken n
+    ++ (firstPass b around (taken ++ fixNumbers a) (n + size a) ++ pairFaults o (isClosed a) (isClosed b) (n + size (pair o a b)))
+firstPass (filter f a) around taken n = firstPass a around taken n
+firstPass (copy c d a) around taken n = firstPass a around taken n
+firstPass (drop c a) around taken n = firstPass a around taken n
+firstPass (fix v a b) around taken n =
+    firstPass a around taken n
+    ++ (firstPass b (v ∷ around) (taken ++ fixNumbers a) (n + size a)
+    ++ (unless (not (member v (taken ++ (fixNumbers a ++ fixNumbers b)))) (Scope (n + size (fix v a b)))
+    ++ (unless (isClosed (fix v a b)) (OpenFix (n + size (fix v a b)))
+    ++ unless (member v (free b)) (HalfOpen (n + size (fix v a b))))))
+
+abbrev pub sameCols : ℕ → Cols → Cols → Bool
+sameCols w D E = all (λ c. D c == E c) w
+
+-- 9: the sides of a union
+abbrev pub sidesOk : ℕ → Pairing → Cols → Cols → Bool
+sidesOk w Union D E = sameCols w D E
+sidesOk w Join D E = true
+sidesOk w Except D E = true
+
+-- "Second pass, lowest node: 9 or 10." The term's lines follow n others; C: the variable's columns.
+unfoldable pub secondPass : Schema → Term → Cols → ℕ → List Refusal
+secondPass G (table t) C n = unless (ltb t (G .tables)) (NoTable (n + 1))
+secondPass G (var v) C n = []
+secondPass G (fact c x) C n = []
+secondPass G (pair o a b) C n =
+    secondPass G a C n
+    ++ (secondPass G b C (n + size a) ++ unless (sidesOk (G .width) o (cols G C a) (cols G C b)) (ColumnFault (n + size (pair o a b))))
+secondPass G (filter f a) C n = secondPass G a C n ++ unless (every (cols G C a) (named f)) (ColumnFault (n + size (filter f a)))
+secondPass G (copy c d a) C n = secondPass G a C n ++ unless (cols G C a c && not (cols G C a d)) (ColumnFault (n + size (copy c d a)))
+secondPass G (drop c a) C n = secondPass G a C n ++ unless (cols G C a c) (ColumnFault (n + size (drop c a)))
+secondPass G (fix v a b) C n =
+    secondPass G a C n
+    ++ (secondPass G b (cols G C a) (n + size a)
+    ++ unless (sameCols (G .width) (cols G (cols G C a) b) (cols G C a)) (ColumnFault (n + size (fix v a b))))
+
+unfoldable pub faults : Schema → Term → List Refusal
+faults G t = firstPass t [] [] 0 ++ secondPass G t noCols 0
+
+-- the sheet's term, or the first of 2, 1, 3, 4 to 8, 9 and 10
+unfoldable pub checkQuery : ℕ → Query → Schema → Reply Term
+checkQuery limit q G = do
+  _ ← checkForm (G .width) limit q
+  t ← termOf (nodes q)
+  _ ← noFault (faults G t)
+  accepted t
+
+-- "A sheet is checked over a book if neither gets a number from 1 to 11": what a run and a step test first, the book before the sheet
+unfoldable pub checkOver : ℕ → ℕ → Query → Database → List ℕ → Reply Term
+checkOver w limit q d store = do
+  _ ← checkDatabase w d store
+  checkQuery limit q (schema w d)

@@ -1,0 +1,28 @@
+// The query: document 01's sheet, as lines of nodes.
+use algebra::Condition;
+use algebra::Pairing;
+
+// "node count … 1–128"
+pub const NODES: usize = 128;
+
+// A node line, by the format's words; filters are the lines `eq`, `ne`, `max` and `same`.
+pub enum Node {
+    Table(u32),
+    Var(u32),
+    Fact(u32, u32),
+    Pair(Pairing),
+    Filter(Condition),
+    Copy(u32, u32),
+    Drop(u32),
+    Fix(u32),
+}
+
+pub struct Line {
+    pub node: Node,
+}
+
+// A sheet handed in as a value. Lines past the count mean nothing.
+pub struct Query {
+    pub count: usize,
+    pub lines: [Line; NODES],
+}

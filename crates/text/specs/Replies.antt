@@ -1,0 +1,52 @@
+-- What the readers and writers of texts reply, and what the lent slices hold afterwards. w is the number of columns.
+use mathlib.Core.Bool.{Bool, true, false}
+use mathlib.Core.Option.{Option, some, none}
+use mathlib.Core.List.{List, [], _∷_, _++_}
+use Prim.Native.Nat.{ℕ}
+use lib.Dec.{leb}
+use lib.ListN.{length, drop}
+use Rattle.laws.specs.Lists.{if_then_else_}
+use Rattle.database.specs.declared.Refusal.the-variants.{ShortSlice}
+use Rattle.database.specs.Refusals.{Reply, refused, accepted, require, verdict, _>>=_}
+use Rattle.query.specs.declared.Node.{Node}
+use Rattle.text.specs.declared.ReadQuery.{ReadQuery}
+use Rattle.text.specs.declared.ReadDatabase.{ReadDatabase}
+use Rattle.text.specs.declared.ReadStep.{ReadStep}
+use Rattle.text.specs.declared.ReadStep.the-variants.{Step, Bad}
+use Rattle.text.specs.declared.Written.{Written}
+use Rattle.text.specs.declared.Written.the-variants.{Bytes, Short}
+use Rattle.text.specs.Lines.{KindNode, stepLine}
+use Rattle.text.specs.Texts.{Table, readTables, queryValue, databaseValue, tableEntries}
+
+-- what was read, or nothing
+abbrev pub readOr : {A : Type 0} → Reply (List A) → List A
+readOr (refused r) = []
+readOr (accepted l) = l
+
+abbrev pub queryReply : Reply (List Node) → ReadQuery
+queryReply r = record { query = queryValue (readOr r); verdict = verdict r }
+
+-- "Reading a book tests the form before the store's length, 8 entries a row."
+unfoldable pub loadTables : ℕ → List ℕ → List ℕ → Reply (List Table)
+loadTables w text store = do
+  ts ← readTables w text
+  _ ← require (leb (length (tableEntries ts)) (length store)) ShortSlice
+  accepted ts
+
+abbrev pub databaseReply : ℕ → Reply (List Table) → ReadDatabase
+databaseReply w r = record { database = databaseValue w (readOr r); verdict = verdict r }
+
+-- "Acceptance writes only the rows' entries of store"; "Refusals … change no store"
+abbrev pub storeAfter : Reply (List Table) → List ℕ → List ℕ
+storeAfter r store = tableEntries (readOr r) ++ drop (length (tableEntries (readOr r))) store
+
+abbrev pub stepReply : Option KindNode → ReadStep
+stepReply none = Bad
+stepReply (some s) = Step (s .kind) (s .node)
+
+-- a text written into a lent slice: whole, or not at all where the slice is short
+abbrev pub writeReply : List ℕ → List ℕ → Written
+writeReply text slice = if leb (length text) (length slice) then Bytes (length text) else Short
+
+abbrev pub sliceAfter : List ℕ → List ℕ → List ℕ
+sliceAfter text slice = if leb (length text) (length slice) then text ++ drop (length text) slice else slice

@@ -1,0 +1,28 @@
+// Reading and writing document 01's text forms.
+use database::Database;
+use database::Verdict;
+use query::Query;
+
+// What reading a query replies; a refusal comes with the empty query.
+pub struct ReadQuery {
+    pub query: Query,
+    pub verdict: Verdict,
+}
+
+// What reading a database replies; a refusal comes with the empty database.
+pub struct ReadDatabase {
+    pub database: Database,
+    pub verdict: Verdict,
+}
+
+// What reading a line of a steps file replies.
+pub enum ReadStep {
+    Step { kind: u32, node: u32 },
+    Bad,
+}
+
+// What writing a text into a lent slice replies: how many bytes it took, or that the slice is short.
+pub enum Written {
+    Bytes(usize),
+    Short,
+}
