@@ -3,6 +3,7 @@ use mathlib.Core.Bool.{Bool, true, false, not, _&&_, _||_}
 use mathlib.Core.List.{List, [], _∷_, _++_}
 use Prim.Native.Nat.{ℕ, zero, suc, _+_}
 use lib.Dec.{eqb}
+use lib.ListN.{length}
 use Rattle.laws.specs.Lists.{if_then_else_, null, member, sift}
 use Rattle.algebra.specs.declared.Pairing.{Pairing}
 use Rattle.algebra.specs.declared.Pairing.the-variants.{Union, Join, Except}
@@ -63,7 +64,7 @@ free (fix v a b) = free a ++ sift (λ u. not (eqb u v)) (free b)
 abbrev pub isClosed : Term → Bool
 isClosed t = null (free t)
 
--- the number of nodes, and of fixes
+-- the number of nodes
 unfoldable pub size : Term → ℕ
 size (table t) = 1
 size (var v) = 1
@@ -73,16 +74,6 @@ size (filter f a) = size a + 1
 size (copy c d a) = size a + 1
 size (drop c a) = size a + 1
 size (fix v a b) = size a + size b + 1
-
-unfoldable pub fixes : Term → ℕ
-fixes (table t) = 0
-fixes (var v) = 0
-fixes (fact c w) = 0
-fixes (pair o a b) = fixes a + fixes b
-fixes (filter f a) = fixes a
-fixes (copy c d a) = fixes a
-fixes (drop c a) = fixes a
-fixes (fix v a b) = fixes a + fixes b + 1
 
 -- the numbers of the fixes, lowest node first
 unfoldable pub fixNumbers : Term → List ℕ
@@ -94,6 +85,10 @@ fixNumbers (filter f a) = fixNumbers a
 fixNumbers (copy c d a) = fixNumbers a
 fixNumbers (drop c a) = fixNumbers a
 fixNumbers (fix v a b) = fixNumbers a ++ (fixNumbers b ++ (v ∷ []))
+
+-- how many fixes there are
+unfoldable pub fixes : Term → ℕ
+fixes t = length (fixNumbers t)
 
 -- the columns that a filter names
 abbrev pub named : Condition → List ℕ

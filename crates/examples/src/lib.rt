@@ -1,0 +1,1 @@
+// Worked examples of the definitions, compared by computation. No code.
