@@ -3,3 +3,6 @@ pub mod Domain
 pub mod Each
 pub mod Linear
 pub mod LeastFixpoint
+pub mod ColumnSets
+pub mod Typing
+pub mod Typed
