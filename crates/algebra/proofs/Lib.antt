@@ -6,3 +6,5 @@ pub mod LeastFixpoint
 pub mod ColumnSets
 pub mod Typing
 pub mod Typed
+pub mod Rider
+pub mod Ride
