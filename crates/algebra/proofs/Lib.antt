@@ -8,3 +8,8 @@ pub mod Typing
 pub mod Typed
 pub mod Rider
 pub mod Ride
+pub mod Open
+pub mod Along
+pub mod Roles
+pub mod Widen
+pub mod FixRows
