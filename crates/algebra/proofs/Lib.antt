@@ -1,0 +1,15 @@
+pub mod Mappings
+pub mod Domain
+pub mod Each
+pub mod Linear
+pub mod LeastFixpoint
+pub mod ColumnSets
+pub mod Typing
+pub mod Typed
+pub mod Rider
+pub mod Ride
+pub mod Open
+pub mod Along
+pub mod Roles
+pub mod Widen
+pub mod FixRows
