@@ -3,6 +3,9 @@ use mathlib.Core.Path.{_≡_, refl, ap, sym, _∙_}
 use mathlib.Core.Bool.{Bool, true, false, _&&_}
 use mathlib.Core.Option.{Option, some, none}
 use mathlib.Core.List.{List, [], _∷_, _++_}
+use Prim.Native.Nat.{ℕ, zero, suc, _<_}
+use native.Mathlib.Nat.{le-of-suc-le-suc, not-suc-le-zero}
+use lib.ListN.{length, getD}
 use Rattle.laws.specs.Lists.{if_then_else_, every}
 use Rattle.laws.proofs.Tests.{and-true-left, and-true-right}
 use Rattle.laws.proofs.Options.{some-inj, none-some}
@@ -41,3 +44,23 @@ kept false e = none-some e
 
 pub both-true : (a b : Bool) → a && b ≡ true → (a ≡ true) × (b ≡ true)
 both-true a b e = (and-true-left a b e, and-true-right a b e)
+
+-- a fact of some member
+pub data Some {A : Type 0} (P : A → Type 0) : List A → Type 0 where
+  first : {a : A} {l : List A} → P a → Some P (a ∷ l)
+  later : {a : A} {l : List A} → Some P l → Some P (a ∷ l)
+
+pub some-at : {A : Type 0} (P : A → Type 0) (d : A) (l : List A) (i : ℕ) → i < length l → P (getD l i d) → Some P l
+some-at P d [] i h p = absurd (not-suc-le-zero h)
+some-at P d (a ∷ l) zero h p = first p
+some-at P d (a ∷ l) (suc i) h p = later (some-at P d l i (le-of-suc-le-suc h) p)
+
+-- a fact of each member beside a fact of some
+pub some-map : {A : Type 0} {P Q R : A → Type 0} (l : List A) → ((a : A) → Q a → P a → R a) → Each Q l → Some P l → Some R l
+some-map (a ∷ l) f (q, qs) (first p) = first (f a q p)
+some-map (a ∷ l) f (q, qs) (later p) = later (some-map l f qs p)
+
+-- what follows from some member follows
+pub some-out : {A C : Type 0} (l : List A) → Some (λ _. C) l → C
+some-out (a ∷ l) (first c) = c
+some-out (a ∷ l) (later s) = some-out l s

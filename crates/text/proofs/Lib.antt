@@ -1,3 +1,5 @@
 pub mod Digits
 pub mod Commas
 pub mod Numbers
+pub mod Forms
+pub mod NodeLines

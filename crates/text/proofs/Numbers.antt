@@ -49,8 +49,8 @@ pub digits-without : (n c : ℕ) → isDigit c ≡ false → Without c (digits n
 digits-without n c f = each-map (digits n) (λ b e. digit-other b e c f) (every-each isDigit (digits n) (digits-digits n))
 
 -- what the reader can hold
-abbrev pub Small : List ℕ → Type 0
-Small ns = Each (λ n. n ≤ maxNumber) ns
+abbrev pub AllSmall : List ℕ → Type 0
+AllSmall ns = Each (λ n. n ≤ maxNumber) ns
 
 pub comma-digits-without : (ns : List ℕ) (c : ℕ) → isDigit c ≡ false → eqb comma c ≡ false → Without c (commaDigits ns)
 unfolding commaDigits
@@ -63,7 +63,7 @@ read-next : (l : List ℕ) (ls : List (List ℕ)) (n : ℕ) (ns : List ℕ) → 
 unfolding readAll
 read-next l ls n ns e f = rw (e, readAll) (rw (f, readAll))
 
-pub numbers-digits : (n : ℕ) (ns : List ℕ) → Small (n ∷ ns) → numbers (commaDigits (n ∷ ns)) ≡ some (n ∷ ns)
+pub numbers-digits : (n : ℕ) (ns : List ℕ) → AllSmall (n ∷ ns) → numbers (commaDigits (n ∷ ns)) ≡ some (n ∷ ns)
 unfolding commaDigits readAll
 numbers-digits n [] (h, _) = rw (one-part (digits n) (digits-without n comma refl)) (read-next (digits n) [] n [] (number-digits n h) refl)
 numbers-digits n (m ∷ ns) (h, k) =
@@ -88,7 +88,7 @@ read-all (l ∷ ls) ns e = first (number l) refl (readAll ls) (read-all ls) e
     first (some n) p none f e = none-some e
     first (some n) p (some ms) f e = subst (λ ns. Parts (l ∷ ls) ns) (some-inj e) (digits-number l n p, f ms refl)
 
-parts-joined : (l : List ℕ) (ls : List (List ℕ)) (ns : List ℕ) → Parts (l ∷ ls) ns → (commaDigits ns ≡ joined (l ∷ ls)) × (null ns ≡ false) × Small ns
+parts-joined : (l : List ℕ) (ls : List (List ℕ)) (ns : List ℕ) → Parts (l ∷ ls) ns → (commaDigits ns ≡ joined (l ∷ ls)) × (null ns ≡ false) × AllSmall ns
 unfolding commaDigits joined
 parts-joined l ls [] p = absurd p
 parts-joined l [] (n ∷ []) ((d, h), _) = (d, refl, (h, tt))
@@ -99,9 +99,9 @@ parts-joined l (k ∷ ls) (n ∷ (m ∷ ns)) ((d, h), p) =
     (ap₂ (λ (x y : List ℕ). x ++ (comma ∷ y)) d e, refl, (h, s))
 
 -- what is read as numbers is printed for those numbers
-pub digits-numbers : (l ns : List ℕ) → numbers l ≡ some ns → (commaDigits ns ≡ l) × (null ns ≡ false) × Small ns
+pub digits-numbers : (l ns : List ℕ) → numbers l ≡ some ns → (commaDigits ns ≡ l) × (null ns ≡ false) × AllSmall ns
 digits-numbers l ns e = some-part (parts l) (parts-null l) (joined-parts l) (read-all (parts l) ns e)
   where
-    some-part : (ls : List (List ℕ)) → null ls ≡ false → joined ls ≡ l → Parts ls ns → (commaDigits ns ≡ l) × (null ns ≡ false) × Small ns
+    some-part : (ls : List (List ℕ)) → null ls ≡ false → joined ls ≡ l → Parts ls ns → (commaDigits ns ≡ l) × (null ns ≡ false) × AllSmall ns
     some-part [] h j p = true-false h
     some-part (m ∷ ls) h j p = let (c, f, s) = parts-joined m ls ns p in (c ∙ j, f, s)
