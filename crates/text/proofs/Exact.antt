@@ -1,9 +1,12 @@
 -- What is read exactly: a reader accepts the texts that a printer prints for the values of some kind, and no others.
 use mathlib.Core.Path.{_≡_, refl, ap, sym, _∙_, subst}
+use mathlib.Core.Bool.{true}
 use mathlib.Core.Option.{Option, some, none}
-use mathlib.Core.List.{List, [], _∷_, _++_, flatMap, append-assoc}
+use mathlib.Core.List.{List, [], _∷_, _++_, flatMap, append-assoc, append-nil}
 use Prim.Native.Nat.{ℕ, zero, suc, _+_}
 use lib.ListN.{length}
+use Rattle.laws.specs.Lists.{null}
+use Rattle.laws.proofs.Tests.{true-false}
 use Rattle.laws.proofs.TextLists.{Each}
 use Rattle.database.specs.declared.Refusal.{Refusal}
 use Rattle.database.specs.Refusals.{Reply, refused, accepted, _>>=_}
@@ -62,6 +65,17 @@ module _ {A : Type 0} where
       (begins ∙ ap (λ m. lineText m ++ t .bytes) (sym same), good);
   }
 
+-- a part that is read, and then what follows it
+pub reads-then : {A B : Type 0} {part : Rest → Reply (A × Rest)} {text : A → List ℕ} {Good : A → Type 0} → Exact part text Good
+    → (a : A) → Good a → (k : ℕ) (rest : List ℕ) (f : A × Rest → Reply B) {b : B} → ((m : ℕ) → f (a, from m rest) ≡ accepted b)
+    → (part (from k (text a ++ rest)) >>= f) ≡ accepted b
+reads-then x a h k rest f g = let (m, e) = x .reads a h k rest in rw e (g m)
+
+-- a text whose parts are used up
+pub used-up : (a b c : List ℕ) {t s₁ s₂ : List ℕ} (s₃ : List ℕ) → t ≡ a ++ s₁ → s₁ ≡ b ++ s₂ → s₂ ≡ c ++ s₃ → null s₃ ≡ true → t ≡ a ++ (b ++ c)
+used-up a b c [] p q r n = p ∙ ap (λ s. a ++ s) (q ∙ ap (λ s. b ++ s) (r ∙ append-nil c))
+used-up a b c (x ∷ s) p q r n = true-false (sym n)
+
 -- a part again and again, where what comes next may depend on the value before
 pub record Again {S A : Type 0} (part : S → Rest → Reply (A × Rest)) (next : A → S) (loop : ℕ → S → Rest → Reply (List A × Rest)) : Type 0 where
   pub end : (c : S) (s : Rest) → loop zero c s ≡ accepted ([], s)
@@ -99,3 +113,25 @@ module _ {S A : Type 0} {part : S → Rest → Reply (A × Rest)} {next : A → 
 
   pub again-exact : (n : ℕ) (c : S) → Exact (loop n c) (flatMap text) (λ l. Chain next Good c l × (length l ≡ n))
   again-exact n c = record { reads = λ l (h, e). subst (λ n. (k : ℕ) (rest : List ℕ) → (m : ℕ) × (loop n c (from k (flatMap text l ++ rest)) ≡ accepted (l, from m rest))) e (again-reads l c h); printed = again-printed n c }
+
+-- the same part n times
+each-chain : {A : Type 0} (Good : A → Type 0) (l : List A) → Each Good l → Chain {S = Unit {0}} (λ _. tt) (λ _. Good) tt l
+each-chain Good [] h = tt
+each-chain Good (a ∷ l) (h, hs) = (h, each-chain Good l hs)
+
+chain-each : {A : Type 0} (Good : A → Type 0) (l : List A) → Chain {S = Unit {0}} (λ _. tt) (λ _. Good) tt l → Each Good l
+chain-each Good [] h = tt
+chain-each Good (a ∷ l) (h, hs) = (h, chain-each Good l hs)
+
+pub many-again : {A : Type 0} (part : Rest → Reply (A × Rest)) → Again {S = Unit {0}} (λ _. part) (λ _. tt) (λ n _. many part n)
+unfolding many
+many-again part = record { end = λ _ _. refl; more = λ _ _ _. refl }
+
+pub many-exact : {A : Type 0} {part : Rest → Reply (A × Rest)} {text : A → List ℕ} {Good : A → Type 0}
+    → Exact part text Good → (n : ℕ) → Exact (many part n) (flatMap text) (λ l. Each Good l × (length l ≡ n))
+many-exact {part = part} {Good = Good} x n =
+    let y = again-exact (many-again part) (λ _. x) n tt in
+    record {
+      reads = λ l (h, e). y .reads l (each-chain Good l h, e);
+      printed = λ s t l e. let (b, (h, n)) = y .printed s t l e in (b, (chain-each Good l h, n));
+    }

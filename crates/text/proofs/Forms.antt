@@ -8,12 +8,13 @@ use Prim.Native.String.{String}
 use lib.Dec.{eqb}
 use borrow.Author.Tests.{eqb-true}
 use Rattle.laws.specs.Lists.{if_then_else_, null, every}
-use Rattle.laws.proofs.Tests.{true-false, eqb-self}
+use Rattle.laws.proofs.Tests.{true-false, eqb-self, not-false}
 use Rattle.laws.proofs.Options.{some-inj, none-some}
-use Rattle.laws.proofs.TextLists.{Some, first, later, both-true, kept}
-use Rattle.text.specs.Numbers.{bytes, numbers, commaDigits}
+use Rattle.laws.proofs.TextLists.{each-map, each-append, every-each, Some, first, later, both-true, kept}
+use Rattle.text.specs.Numbers.{bytes, newline, numbers, commaDigits}
 use Rattle.text.specs.Lines.{after, numbersAfter, Form, word, one, two, ifEmpty, ifOne, ifTwo, byForm, byForms, inRange}
-use Rattle.text.proofs.Numbers.{AllSmall, numbers-digits, digits-numbers}
+use Rattle.text.proofs.Numbers.{AllSmall, comma-digits-without, numbers-digits, digits-numbers}
+use Rattle.text.proofs.Commas.{Without}
 
 -- a key, and what follows it
 pub after-key : (key l : List ℕ) → after key (key ++ l) ≡ some l
@@ -63,6 +64,18 @@ after-numbers key l ns e = by-rest (after (bytes key) l) refl e
     by-rest (some m) q e =
         let (c, h, s) = digits-numbers m ns e in
         (ap (λ r. bytes key ++ r) c ∙ sym (key-after (bytes key) l m q), h, s)
+
+-- no byte of a line ends it
+unfoldable pub plain : List ℕ → Bool
+plain l = every (λ b. not (eqb b newline)) l
+
+pub plain-unbroken : (l : List ℕ) → plain l ≡ true → Without newline l
+unfolding plain
+plain-unbroken l e = each-map l (λ b. not-false (eqb b newline)) (every-each (λ b. not (eqb b newline)) l e)
+
+pub key-numbers-unbroken : (key : String) → plain (bytes key) ≡ true → (ns : List ℕ) → Without newline (bytes key ++ commaDigits ns)
+key-numbers-unbroken key p ns =
+    each-append (λ b. eqb b newline ≡ false) (bytes key) (commaDigits ns) (plain-unbroken (bytes key) p) (comma-digits-without ns newline refl refl)
 
 module _ {A : Type 0} where
   abbrev pub keyOf : Form A → String

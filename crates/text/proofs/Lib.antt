@@ -6,3 +6,5 @@ pub mod NodeLines
 pub mod ReplyLaws
 pub mod FirstLine
 pub mod Exact
+pub mod Lines
+pub mod QueryRoundTrip

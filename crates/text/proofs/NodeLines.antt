@@ -8,7 +8,7 @@ use lib.Dec.{T, ltb, lit<}
 use lib.ListN.{length, getD}
 use Rattle.laws.specs.Lists.{every}
 use Rattle.laws.proofs.Options.{some-inj, none-some}
-use Rattle.laws.proofs.TextLists.{Each, Some, some-at, some-map, some-out}
+use Rattle.laws.proofs.TextLists.{Each, every-each, Some, some-at, some-map, some-out}
 use Rattle.algebra.specs.declared.Pairing.the-variants.{Union, Join, Except}
 use Rattle.algebra.specs.declared.Condition.the-variants.{Eq, Ne, Max, Same}
 use Rattle.query.specs.declared.Node.{Node}
@@ -17,7 +17,8 @@ use Rattle.query.specs.Lines.{onForm}
 use Rattle.text.specs.Numbers.{bytes, newline, digits, commaDigits}
 use Rattle.text.specs.Lines.{Form, word, one, two, byForms, nodeForms, nodeLine, nodeText}
 use Rattle.text.proofs.Numbers.{AllSmall}
-use Rattle.text.proofs.Forms.{apart, keyOf, valueOf, Prints, keysApart, read-by-forms, printed-by-forms, in-range, range-in}
+use Rattle.text.proofs.Forms.{apart, keyOf, valueOf, Prints, keysApart, read-by-forms, printed-by-forms, in-range, range-in, plain, key-numbers-unbroken}
+use Rattle.text.proofs.Commas.{Without}
 
 abbrev pub numbersOf : Node → List ℕ
 numbersOf (Table t) = t ∷ []
@@ -89,6 +90,10 @@ keys-apart : keysApart nodeForms ≡ true
 unfolding keysApart apart every bytes
 keys-apart = refl
 
+plain-keys : Each (λ form. plain (bytes (keyOf form)) ≡ true) nodeForms
+unfolding plain every bytes
+plain-keys = every-each (λ form. plain (bytes (keyOf form))) nodeForms refl
+
 pub node-line : (w : ℕ) (n : Node) → onForm w n ≡ true → Small n → nodeLine w (nodeText n) ≡ some n
 unfolding nodeLine MadeIn
 node-line w n h s = range-in (onForm w) (byForms nodeForms (nodeText n)) n (read-by-forms nodeForms n (nodeText n) keys-apart printed) h
@@ -110,3 +115,14 @@ line-node w l n e =
     same form f p =
         let (text, numbers) = fits form f (p .ns) n (p .value) in
         (text ∙ p .line, subst AllSmall (sym numbers) (p .small))
+
+pub node-unbroken : (n : Node) → Without newline (nodeText n)
+unfolding MadeIn
+node-unbroken n = some-out nodeForms (some-map nodeForms unbroken plain-keys (some-map nodeForms printed table-fits (made n)))
+  where
+    printed : (form : Form Node) → Fits form → valueOf form (numbersOf n) ≡ some n → nodeText n ≡ bytes (keyOf form) ++ commaDigits (numbersOf n)
+    printed form f e = fits form f (numbersOf n) n e .0
+
+    unbroken : (form : Form Node) → plain (bytes (keyOf form)) ≡ true → nodeText n ≡ bytes (keyOf form) ++ commaDigits (numbersOf n)
+        → Without newline (nodeText n)
+    unbroken form p e = subst (Without newline) (sym e) (key-numbers-unbroken (keyOf form) p (numbersOf n))
