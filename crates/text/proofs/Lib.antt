@@ -8,3 +8,6 @@ pub mod FirstLine
 pub mod Exact
 pub mod Lines
 pub mod QueryRoundTrip
+pub mod Filled
+pub mod RowLines
+pub mod DatabaseRoundTrip
