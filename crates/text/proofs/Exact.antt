@@ -66,15 +66,21 @@ module _ {A : Type 0} where
   }
 
 -- a part that is read, and then what follows it
-pub reads-then : {A B : Type 0} {part : Rest → Reply (A × Rest)} {text : A → List ℕ} {Good : A → Type 0} → Exact part text Good
-    → (a : A) → Good a → (k : ℕ) (rest : List ℕ) (f : A × Rest → Reply B) {b : B} → ((m : ℕ) → f (a, from m rest) ≡ accepted b)
-    → (part (from k (text a ++ rest)) >>= f) ≡ accepted b
-reads-then x a h k rest f g = let (m, e) = x .reads a h k rest in rw e (g m)
+pub reads-then : {A B : Type 0} (C : Reply B → Type 0) {part : Rest → Reply (A × Rest)} {text : A → List ℕ} {Good : A → Type 0} → Exact part text Good
+    → (a : A) → Good a → (k : ℕ) (rest : List ℕ) (f : A × Rest → Reply B) → ((m : ℕ) → C (f (a, from m rest)))
+    → C (part (from k (text a ++ rest)) >>= f)
+reads-then C x a h k rest f g = let (m, e) = x .reads a h k rest in subst (λ r. C (r >>= f)) (sym e) (g m)
 
--- a text whose parts are used up
-pub used-up : (a b c : List ℕ) {t s₁ s₂ : List ℕ} (s₃ : List ℕ) → t ≡ a ++ s₁ → s₁ ≡ b ++ s₂ → s₂ ≡ c ++ s₃ → null s₃ ≡ true → t ≡ a ++ (b ++ c)
-used-up a b c [] p q r n = p ∙ ap (λ s. a ++ s) (q ∙ ap (λ s. b ++ s) (r ∙ append-nil c))
-used-up a b c (x ∷ s) p q r n = true-false (sym n)
+-- a text of three parts, one after the other, and a rest
+pub regroup : (a b c rest : List ℕ) → (a ++ (b ++ c)) ++ rest ≡ a ++ (b ++ (c ++ rest))
+regroup a b c rest = simp append-assoc
+
+pub put-together : (a b c rest : List ℕ) {t s₁ s₂ : List ℕ} → t ≡ a ++ s₁ → s₁ ≡ b ++ s₂ → s₂ ≡ c ++ rest → t ≡ (a ++ (b ++ c)) ++ rest
+put-together a b c rest p q r = p ∙ ap (λ s. a ++ s) (q ∙ ap (λ s. b ++ s) r) ∙ sym (regroup a b c rest)
+
+pub nothing-after : (l rest : List ℕ) → null rest ≡ true → l ++ rest ≡ l
+nothing-after l [] n = append-nil l
+nothing-after l (b ∷ rest) n = true-false (sym n)
 
 -- a part again and again, where what comes next may depend on the value before
 pub record Again {S A : Type 0} (part : S → Rest → Reply (A × Rest)) (next : A → S) (loop : ℕ → S → Rest → Reply (List A × Rest)) : Type 0 where

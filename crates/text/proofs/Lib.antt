@@ -10,4 +10,5 @@ pub mod Lines
 pub mod QueryRoundTrip
 pub mod Filled
 pub mod RowLines
+pub mod Tables
 pub mod DatabaseRoundTrip

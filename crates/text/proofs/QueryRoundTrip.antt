@@ -16,18 +16,19 @@ use Rattle.text.specs.Lines.{Rest, due, many, ended, whole, headerLine, 
 use Rattle.text.specs.Texts.{readNodes, queryText, lineText}
 use Rattle.text.proofs.Forms.{plain}
 use Rattle.text.proofs.ReplyLaws.{accepted-inj, bind-accepted, required}
-use Rattle.text.proofs.Exact.{used-up, reads-then, due-exact, many-exact}
+use Rattle.text.proofs.Exact.{put-together, nothing-after, reads-then, due-exact, many-exact}
 use Rattle.text.proofs.Lines.{GoodNode, node-exact, header-exact, nodes-exact}
 
 pub query-round-trip : (w limit : ℕ) (ns : List Node) → 1 ≤ length ns → length ns ≤ limit → length ns ≤ maxNumber → Each (GoodNode w) ns
     → readNodes w limit (queryText ns) ≡ accepted ns
 unfolding readNodes queryText
 query-round-trip w limit ns low high small good =
+    let reads : Reply (List Node) → Type 0 = λ r. r ≡ accepted ns in
     let lines = flatMap (λ n. lineText (nodeText n)) ns in
-    reads-then (due-exact QueryForm header-exact) tt tt 1 (lineText (bytes "nodes=" ++ digits (length ns)) ++ lines) _ λ k₁.
-    reads-then (due-exact QueryForm nodes-exact) (length ns) (small, small) k₁ lines _ λ k₂.
+    reads-then reads (due-exact QueryForm header-exact) tt tt 1 (lineText (bytes "nodes=" ++ digits (length ns)) ++ lines) _ λ k₁.
+    reads-then reads (due-exact QueryForm nodes-exact) (length ns) (small, small) k₁ lines _ λ k₂.
     rw (← append-nil lines)
-    (reads-then (many-exact (due-exact QueryForm (node-exact w)) (length ns)) ns (good, refl) k₂ [] _ λ k₃.
+    (reads-then reads (many-exact (due-exact QueryForm (node-exact w)) (length ns)) ns (good, refl) k₂ [] _ λ k₃.
     rw (le-leb 1 (length ns) low, le-leb (length ns) limit high))
 
 pub read-printed : (w limit : ℕ) (text : List ℕ) (ns : List Node) → readNodes w limit text ≡ accepted ns
@@ -44,6 +45,7 @@ read-printed w limit text ns e =
     let (b₃, (good, counted)) = many-exact (due-exact QueryForm (node-exact w)) n .printed s₂ s₃ ms lines in
     let (low, high) = both-true (leb 1 n) (leb n limit) (required _ _ tt range) in
     let count = lineText (bytes "nodes=" ++ digits n) in
-    let same = used-up (lineText (bytes "guide=1")) count (flatMap (λ n. lineText (nodeText n)) ms) (s₃ .bytes) b₁ b₂ b₃ (required _ _ tt over) in
+    let same = put-together (lineText (bytes "guide=1")) count (flatMap (λ n. lineText (nodeText n)) ms) (s₃ .bytes) b₁ b₂ b₃ in
+    let whole = same ∙ nothing-after _ (s₃ .bytes) (required _ _ tt over) in
     subst (λ ns. (text ≡ queryText ns) × (1 ≤ length ns) × (length ns ≤ limit) × Each (GoodNode w) ns) (accepted-inj e₅)
-      (rw counted same, rw counted (leb-true 1 n low), rw counted (leb-true n limit high), good)
+      (rw counted whole, rw counted (leb-true 1 n low), rw counted (leb-true n limit high), good)
