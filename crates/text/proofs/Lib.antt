@@ -7,6 +7,7 @@ pub mod ReplyLaws
 pub mod FirstLine
 pub mod Exact
 pub mod Lines
+pub mod Counted
 pub mod QueryRoundTrip
 pub mod Filled
 pub mod RowLines

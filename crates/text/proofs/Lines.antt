@@ -61,7 +61,3 @@ count-exact key most p = record {
     single l n [] s v e = none-some v
     single l n (m ∷ []) (s, _) v e = subst (λ n. (bytes key ++ digits n ≡ l) × (n ≤ maxNumber)) (some-inj v) (e, s)
     single l n (m ∷ (k ∷ ns)) s v e = none-some v
-
-pub nodes-exact : ExactLine (countLine "nodes=" maxNumber) (λ n. bytes "nodes=" ++ digits n) (λ n. (n ≤ maxNumber) × (n ≤ maxNumber))
-unfolding plain every bytes
-nodes-exact = count-exact "nodes=" maxNumber refl
