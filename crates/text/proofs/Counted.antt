@@ -18,13 +18,16 @@ use Rattle.text.proofs.Exact.{Exact, put-together, nothing-after, reads
 use Rattle.text.proofs.Lines.{header-exact, count-exact}
 
 -- how both texts are read: finish has the count and what was read
-abbrev pub readCounted : {A B : Type 0} → (ℕ → Refusal) → String → ℕ → (Rest → Reply (A × Rest)) → (ℕ → List A → Reply B) → List ℕ → Reply B
-readCounted bad key most part finish text = do
-  (_, s₁) ← due bad headerLine (whole text)
+abbrev pub countedFrom : {A B : Type 0} → (ℕ → Refusal) → String → ℕ → (Rest → Reply (A × Rest)) → (ℕ → List A → Reply B) → Rest → Reply B
+countedFrom bad key most part finish s = do
+  (_, s₁) ← due bad headerLine s
   (n, s₂) ← due bad (countLine key most) s₁
   (l, s₃) ← many part n s₂
   _ ← ended bad s₃
   finish n l
+
+abbrev pub readCounted : {A B : Type 0} → (ℕ → Refusal) → String → ℕ → (Rest → Reply (A × Rest)) → (ℕ → List A → Reply B) → List ℕ → Reply B
+readCounted bad key most part finish text = countedFrom bad key most part finish (whole text)
 
 abbrev pub countedText : {A : Type 0} → String → (A → List ℕ) → List A → List ℕ
 countedText key text l = lineText (bytes "guide=1") ++ (lineText (bytes key ++ digits (length l)) ++ flatMap text l)

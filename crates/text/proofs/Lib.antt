@@ -13,3 +13,7 @@ pub mod Filled
 pub mod RowLines
 pub mod Tables
 pub mod DatabaseRoundTrip
+pub mod FirstLines
+pub mod LineByLine
+pub mod FirstBad
+pub mod FirstBadLine

@@ -1,6 +1,6 @@
 -- The lines of a query's text are read exactly.
 use mathlib.Core.Path.{_≡_, refl, ap, sym, _∙_, subst}
-use mathlib.Core.Bool.{Bool, true, false}
+use mathlib.Core.Bool.{true, _&&_}
 use mathlib.Core.Option.{Option, some, none}
 use mathlib.Core.List.{List, [], _∷_, _++_, append-nil}
 use Prim.Native.Nat.{ℕ, _≤_}
@@ -9,6 +9,8 @@ use lib.Dec.{leb}
 use borrow.Author.Tests.{leb-true, le-leb}
 use Rattle.laws.specs.Lists.{every}
 use Rattle.laws.proofs.Options.{some-inj, none-some}
+use Rattle.database.specs.declared.Refusal.the-variants.{NodeCount}
+use Rattle.database.specs.Refusals.{Reply, accepted, require, _>>=_}
 use Rattle.query.specs.declared.Node.{Node}
 use Rattle.query.specs.Lines.{onForm}
 use Rattle.text.specs.Numbers.{bytes, maxNumber, digits, commaDigits}
@@ -61,3 +63,7 @@ count-exact key most p = record {
     single l n [] s v e = none-some v
     single l n (m ∷ []) (s, _) v e = subst (λ n. (bytes key ++ digits n ≡ l) × (n ≤ maxNumber)) (some-inj v) (e, s)
     single l n (m ∷ (k ∷ ns)) s v e = none-some v
+
+-- the end of reading a query: its node count is tested
+abbrev pub countTested : ℕ → ℕ → List Node → Reply (List Node)
+countTested limit n ns = require (leb 1 n && leb n limit) (NodeCount 2) >>= λ _. accepted ns

@@ -18,10 +18,7 @@ use Rattle.text.proofs.Forms.{plain}
 use Rattle.text.proofs.ReplyLaws.{accepted-inj, bind-accepted, required}
 use Rattle.text.proofs.Exact.{due-exact}
 use Rattle.text.proofs.Counted.{counted-reads, counted-printed}
-use Rattle.text.proofs.Lines.{GoodNode, node-exact}
-
-abbrev finish : ℕ → ℕ → List Node → Reply (List Node)
-finish limit n ns = require (leb 1 n && leb n limit) (NodeCount 2) >>= λ _. accepted ns
+use Rattle.text.proofs.Lines.{GoodNode, node-exact, countTested}
 
 nodes-plain : plain (bytes "nodes=") ≡ true
 unfolding plain every bytes
@@ -31,14 +28,14 @@ pub query-round-trip : (w limit : ℕ) (ns : List Node) → 1 ≤ length ns → 
     → readNodes w limit (queryText ns) ≡ accepted ns
 unfolding readNodes queryText
 query-round-trip w limit ns low high small good =
-    rw (counted-reads QueryForm "nodes=" maxNumber nodes-plain (due-exact QueryForm (node-exact w)) (finish limit) ns small small good)
+    rw (counted-reads QueryForm "nodes=" maxNumber nodes-plain (due-exact QueryForm (node-exact w)) (countTested limit) ns small small good)
       (rw (le-leb 1 (length ns) low, le-leb (length ns) limit high))
 
 pub read-printed : (w limit : ℕ) (text : List ℕ) (ns : List Node) → readNodes w limit text ≡ accepted ns
     → (text ≡ queryText ns) × (1 ≤ length ns) × (length ns ≤ limit) × Each (GoodNode w) ns
 unfolding readNodes queryText
 read-printed w limit text ns e =
-    let (ms, same, _, good, last) = counted-printed QueryForm "nodes=" maxNumber nodes-plain (due-exact QueryForm (node-exact w)) (finish limit) text ns e in
+    let (ms, same, _, good, last) = counted-printed QueryForm "nodes=" maxNumber nodes-plain (due-exact QueryForm (node-exact w)) (countTested limit) text ns e in
     bind-accepted (require (leb 1 (length ms) && leb (length ms) limit) (NodeCount 2)) _ last λ _ range read.
     let (low, high) = both-true (leb 1 (length ms)) (leb (length ms) limit) (required _ _ tt range) in
     subst (λ ns. (text ≡ queryText ns) × (1 ≤ length ns) × (length ns ≤ limit) × Each (GoodNode w) ns) (accepted-inj read)

@@ -32,7 +32,7 @@ pub record GoodTable (w : ℕ) (t : Table) : Type 0 where
 abbrev rowText : List ℕ → Row → List ℕ
 rowText cs r = lineText (bytes "row=" ++ commaDigits (map (slot r) cs))
 
-rows-again : (w : ℕ) (cs : List ℕ) → Again (λ above. due DatabaseForm (rowLine w cs above)) some (λ n above. readRows w cs n above)
+pub rows-again : (w : ℕ) (cs : List ℕ) → Again (λ above. due DatabaseForm (rowLine w cs above)) some (λ n above. readRows w cs n above)
 unfolding readRows
 rows-again w cs = record { end = λ _ _. refl; more = λ _ _ _. refl }
 

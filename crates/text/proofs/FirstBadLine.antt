@@ -1,0 +1,62 @@
+-- "Of a text, number 1 names the first bad line, a missing one being the line after the last", and so does 11.
+use mathlib.Core.Path.{_≡_, refl, ap, sym, _∙_}
+use mathlib.Core.Bool.{Bool, true, false, _&&_}
+use mathlib.Core.Option.{none}
+use mathlib.Core.List.{List}
+use Prim.Native.Nat.{ℕ}
+use native.Mathlib.Omega.{arith}
+use lib.Dec.{leb}
+use Rattle.database.specs.declared.Refusal.{Refusal}
+use Rattle.database.specs.declared.Refusal.the-variants.{QueryForm, NodeCount, DatabaseForm}
+use Rattle.database.specs.Stored.{tableLimit, rowsLimit}
+use Rattle.database.specs.Refusals.{Reply, refused, accepted, require, number, _>>=_}
+use Rattle.query.specs.declared.Node.{Node}
+use Rattle.text.specs.Numbers.{maxNumber}
+use Rattle.text.specs.Lines.{due, countLine, nodeLine, colsLine, rowLine}
+use Rattle.text.specs.Texts.{Table, readRows, readTable, readNodes, readTables}
+use Rattle.text.proofs.ReplyLaws.{refused-accepted, refused-inj}
+use Rattle.text.proofs.Lines.{countTested}
+use Rattle.text.proofs.Tables.{rows-again}
+use Rattle.text.proofs.FirstLines.{firstLines}
+use Rattle.text.proofs.LineByLine.{Linewise, linewise-end, linewise-then, linewise-again, linewise-due}
+use Rattle.text.proofs.FirstBad.{FirstBad, first-bad-counted}
+
+count-no-line : (limit n : ℕ) (ns : List Node) (k : ℕ) → countTested limit n ns ≡ refused (QueryForm k) → ⊥
+count-no-line limit n ns k e = by-test (leb 1 n && leb n limit) e
+  where
+    by-test : (t : Bool) → (require t (NodeCount 2) >>= λ _. accepted ns) ≡ refused (QueryForm k) → ⊥
+    by-test true e = refused-accepted (sym e)
+    by-test false e = let p = ap number (refused-inj e) in omega arith
+
+pub first-bad-query-line : (w limit limit′ : ℕ) (text : List ℕ) (k : ℕ) → readNodes w limit text ≡ refused (QueryForm k)
+    → FirstBad QueryForm (readNodes w limit′) text k
+unfolding readNodes
+first-bad-query-line w limit limit′ =
+    first-bad-counted QueryForm (λ n. refl) "nodes=" maxNumber (due QueryForm (nodeLine w)) (linewise-due QueryForm (List Node) (λ n. refl) (nodeLine w))
+      (countTested limit) (countTested limit′) (count-no-line limit) (count-no-line limit′)
+
+table-linewise : (w : ℕ) → Linewise DatabaseForm (List Table) (readTable w)
+unfolding readTable
+table-linewise w =
+    linewise-then bad B (linewise-due bad B (λ n. refl) (colsLine w)) λ cs.
+    linewise-then bad B (linewise-due bad B (λ n. refl) (countLine "rows=" rowsLimit)) λ n.
+    linewise-then bad B (linewise-again bad B (rows-again w cs) (λ above. linewise-due bad B (λ n. refl) (rowLine w cs above)) n none) λ rows.
+    linewise-end bad B (record { columns = cs; rows = rows })
+  where
+    bad : ℕ → Refusal
+    bad n = DatabaseForm n
+
+    B : Type 0
+    B = List Table
+
+pub first-bad-database-line : (w : ℕ) (text : List ℕ) (k : ℕ) → readTables w text ≡ refused (DatabaseForm k)
+    → FirstBad DatabaseForm (readTables w) text k
+unfolding readTables
+first-bad-database-line w =
+    first-bad-counted DatabaseForm (λ n. refl) "tables=" tableLimit (readTable w) (table-linewise w)
+      (λ _ ts. accepted ts) (λ _ ts. accepted ts) (λ n ts k e. refused-accepted (sym e)) (λ n ts k e. refused-accepted (sym e))
+
+-- an accepted text with the same lines before the first bad one has another line there, or ends where the bad text goes on
+pub accepted-differs : {B : Type 0} (bad : ℕ → Refusal) (read : List ℕ → Reply B) (text : List ℕ) (k : ℕ) → FirstBad bad read text k
+    → (text′ : List ℕ) (b : B) → read text′ ≡ accepted b → firstLines k text ≡ firstLines k text′ → ⊥
+accepted-differs bad read text k x text′ b e f = refused-accepted (sym (x .there text′ f) ∙ e)
