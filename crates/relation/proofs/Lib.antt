@@ -1,1 +1,6 @@
 pub mod Shows
+pub mod RowOrder
+pub mod Members
+pub mod Ascend
+pub mod Insert
+pub mod Sift
