@@ -4,3 +4,5 @@ pub mod Members
 pub mod Ascend
 pub mod Insert
 pub mod Sift
+pub mod RowMappings
+pub mod Shapes
