@@ -8,9 +8,9 @@ use Rattle.algebra.specs.Term.{Term, fix, Environment, bind, meaning}
 use Rattle.algebra.specs.Columns.{Cols, noCols, Schema, cols}
 use Rattle.algebra.specs.WellFormed.{Closed, c-fix, Path}
 use Rattle.algebra.proofs.Mappings.{isSome, present, only}
-use Rattle.algebra.proofs.Domain.{Domain, domain-at}
+use Rattle.algebra.proofs.Domain.{Domain, TypedTables, domain-at}
 use Rattle.algebra.proofs.Linear.{Lineage, lineage}
-use Rattle.algebra.proofs.Typing.{TypedTables, closed-typed}
+use Rattle.algebra.proofs.Typing.{closed-typed}
 use Rattle.algebra.proofs.Rider.{alongside-compatible}
 use Rattle.algebra.proofs.Ride.{Rides, stay-alongside, ride, unride}
 use Rattle.algebra.proofs.Roles.{kept, kept-alongside, alongside-kept, shared-kept, joined, joined-alongside}
@@ -23,6 +23,9 @@ pub record ClosedFix (G : Schema) (v : ℕ) (s t : Term) : Type 0 where
 
 pub fix-closed : {G : Schema} {v : ℕ} {s t : Term} → ClosedFix G v s t → Closed G (fix v s t)
 fix-closed F = c-fix (F .seed) (F .step) (F .columns)
+
+pub fix-parts : {G : Schema} {v : ℕ} {s t : Term} → Closed G (fix v s t) → ClosedFix G v s t
+fix-parts (c-fix p q e) = record { seed = p; step = q; columns = e }
 
 -- two rows of the columns C that agree on those of them that O has fit the same mappings of O
 pub agree-compatible : (x y u : Mapping) (C O : Cols) → Domain x C → Domain u O
