@@ -6,3 +6,8 @@ pub mod Insert
 pub mod Sift
 pub mod RowMappings
 pub mod Shapes
+pub mod RowsUnique
+pub mod Gather
+pub mod Kept
+pub mod Operators
+pub mod ColumnsRound
