@@ -25,3 +25,4 @@ pub mod Written
 pub mod Sound
 pub mod Alike
 pub mod Swap
+pub mod Distinct

@@ -1,0 +1,2 @@
+pub mod RenamedLines
+pub mod RuleLines
