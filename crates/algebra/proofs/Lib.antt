@@ -26,3 +26,4 @@ pub mod Sound
 pub mod Distinct
 pub mod Alike
 pub mod Swap
+pub mod Conditions
