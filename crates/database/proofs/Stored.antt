@@ -2,17 +2,21 @@
 use mathlib.Core.Path.{_≡_}
 use mathlib.Core.Bool.{true, false}
 use mathlib.Core.Logic.{_⊎_, inl, inr, _↔_}
-use mathlib.Core.List.{List}
+use mathlib.Core.List.{List, []}
 use Prim.Native.Nat.{ℕ, _≤_, _<_}
 use lib.Dec.{leb, ltb}
-use borrow.Author.Tests.{ltb-true, leb-true, leb-false, le-leb, lt-leb}
+use lib.ListN.{getD}
+use borrow.Author.Tests.{leb-true, leb-false, le-leb, lt-leb}
 use Rattle.laws.specs.Lists.{lowest}
-use Rattle.laws.proofs.Tests.{and-true-left}
+use Rattle.laws.proofs.Tests.{and-true-right}
 use Rattle.laws.proofs.RowLists.{lowest-none, lowest-some}
 use Rattle.algebra.proofs.Domain.{TypedTables}
 use Rattle.algebra.proofs.Narrow.{Below}
+use Rattle.relation.specs.declared.Columns.{Columns}
+use Rattle.relation.specs.Rows.{colsOf}
 use Rattle.relation.proofs.Shows.{Shows}
 use Rattle.relation.proofs.RowMappings.{mapping-domain}
+use Rattle.relation.proofs.ColumnsRound.{colsOf-below}
 use Rattle.database.specs.declared.Database.{Database}
 use Rattle.database.specs.declared.Refusal.{Refusal}
 use Rattle.database.specs.declared.Refusal.the-variants.{DatabaseForm}
@@ -22,7 +26,9 @@ use Rattle.database.proofs.Tested.{replied-accepted, replied-refused, t
 
 -- a table's columns lie below w
 pub table-below : (w : ℕ) (d : Database) (t : ℕ) → Below w (tableCols w d t)
-table-below w d t c e = ltb-true c w (and-true-left (ltb c w) _ e)
+table-below w d t c e =
+    let s : Columns = getD (d .columns) t (record { has = [] }) in
+    colsOf-below w s c (and-true-right (ltb t (d .tables)) (colsOf w s c) e)
 
 -- tested or not, each mapping of a table has exactly the table's columns
 pub typed-tables : (w : ℕ) (d : Database) (store : List ℕ) → TypedTables (schema w d) (tables w d store)
