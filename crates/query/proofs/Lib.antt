@@ -1,0 +1,4 @@
+pub mod Reading
+pub mod TermLines
+pub mod Prefix
+pub mod ReadRefused
