@@ -13,3 +13,15 @@ pub mod Along
 pub mod Roles
 pub mod Widen
 pub mod FixRows
+pub mod SelectFix
+pub mod JoinFix
+pub mod DropFix
+pub mod Renamed
+pub mod JoinFixes
+pub mod Narrow
+pub mod Redex
+pub mod Enough
+pub mod Written
+pub mod Sound
+pub mod Alike
+pub mod Swap
