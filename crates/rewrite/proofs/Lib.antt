@@ -1,0 +1,4 @@
+pub mod RenamedLines
+pub mod RuleLines
+pub mod Around
+pub mod RuleExact
