@@ -3,3 +3,4 @@ pub mod Lists
 pub mod RowLists
 pub mod Options
 pub mod TextLists
+pub mod Faults
