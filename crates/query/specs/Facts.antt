@@ -52,6 +52,9 @@ factsOf G vs =
       columns = padded (columnsOf (G .width) noCols) (map (λ (x : Visit). columnsOf (G .width) (cols G (x .variable) (x .term))) vs);
     }
 
+abbrev pub visited : Schema → Reply Term → List Visit
+visited G (refused r) = []
+visited G (accepted t) = visits G noCols [] 0 t
+
 abbrev pub checkedValue : Schema → Reply Term → CheckedQuery
-checkedValue G (refused r) = record { verdict = verdict (refused r); facts = factsOf G [] }
-checkedValue G (accepted t) = record { verdict = verdict (accepted t); facts = factsOf G (visits G noCols [] 0 t) }
+checkedValue G r = record { verdict = verdict r; facts = factsOf G (visited G r) }
