@@ -13,3 +13,8 @@ pub mod Along
 pub mod Roles
 pub mod Widen
 pub mod FixRows
+pub mod SelectFix
+pub mod JoinFix
+pub mod DropFix
+pub mod Renamed
+pub mod JoinFixes
