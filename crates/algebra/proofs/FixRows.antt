@@ -24,6 +24,9 @@ pub record ClosedFix (G : Schema) (v : ℕ) (s t : Term) : Type 0 where
 pub fix-closed : {G : Schema} {v : ℕ} {s t : Term} → ClosedFix G v s t → Closed G (fix v s t)
 fix-closed F = c-fix (F .seed) (F .step) (F .columns)
 
+pub fix-parts : {G : Schema} {v : ℕ} {s t : Term} → Closed G (fix v s t) → ClosedFix G v s t
+fix-parts (c-fix p q e) = record { seed = p; step = q; columns = e }
+
 -- two rows of the columns C that agree on those of them that O has fit the same mappings of O
 pub agree-compatible : (x y u : Mapping) (C O : Cols) → Domain x C → Domain u O
     → ((c : ℕ) → C c ≡ true → O c ≡ true → y c ≡ x c) → Compatible y u → Compatible x u

@@ -18,3 +18,10 @@ pub mod JoinFix
 pub mod DropFix
 pub mod Renamed
 pub mod JoinFixes
+pub mod Narrow
+pub mod Redex
+pub mod Enough
+pub mod Written
+pub mod Sound
+pub mod Alike
+pub mod Swap

@@ -6,10 +6,11 @@ use mathlib.Core.Logic.{_⊎_, inl, inr}
 use mathlib.Core.List.{List}
 use Prim.Native.Nat.{ℕ}
 use Rattle.laws.proofs.Tests.{same?}
+use Rattle.laws.proofs.Options.{none-some, some-inj}
 use Rattle.algebra.specs.Mapping.{Mapping, Compatible, orElse, combine, put}
 use Rattle.algebra.specs.Columns.{Cols}
 use Rattle.algebra.specs.WellFormed.{Each}
-use Rattle.algebra.proofs.Mappings.{isSome, none-some, some-inj, or-none, put-other}
+use Rattle.algebra.proofs.Mappings.{isSome, or-none, put-other}
 use Rattle.algebra.proofs.Domain.{Domain}
 use Rattle.algebra.proofs.Each.{each-map}
 
