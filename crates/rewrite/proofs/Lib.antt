@@ -1,0 +1,5 @@
+pub mod RenamedLines
+pub mod RuleLines
+pub mod Around
+pub mod RuleExact
+pub mod OnForm
