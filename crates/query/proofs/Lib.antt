@@ -16,3 +16,4 @@ pub mod CheckReply
 pub mod CheckTests
 pub mod Checked
 pub mod CheckedOver
+pub mod Parts
