@@ -1,27 +1,18 @@
 -- The check over a stored book: the book is on the form, and the query is checked over its columns.
 use mathlib.Core.Path.{_≡_, refl, subst}
-use mathlib.Core.Bool.{true, _&&_}
-use mathlib.Core.List.{List, []}
-use mathlib.Core.Logic.{_⊎_, inl, inr, _↔_}
-use Prim.Native.Nat.{ℕ, _<_}
-use lib.Dec.{ltb}
-use lib.ListN.{getD}
-use borrow.Author.Tests.{ltb-true}
-use Rattle.laws.proofs.Tests.{and-true-left}
+use mathlib.Core.List.{List}
+use mathlib.Core.Logic.{_↔_}
+use Prim.Native.Nat.{ℕ}
 use Rattle.algebra.specs.Term.{Term}
-use Rattle.algebra.proofs.Narrow.{Below}
 use Rattle.database.specs.declared.Database.{Database}
 use Rattle.database.specs.declared.Refusal.{Refusal}
-use Rattle.database.specs.Stored.{schema, tableCols, checkDatabase}
+use Rattle.database.specs.Stored.{schema, checkDatabase}
 use Rattle.database.specs.Refusals.{Reply, refused, accepted, _>>=_}
+use Rattle.database.proofs.Stored.{table-below}
 use Rattle.query.specs.declared.Query.{Query}
 use Rattle.query.specs.Check.{checkQuery, checkOver}
 use Rattle.query.proofs.CheckReply.{Checked, CheckReply, sound}
 use Rattle.query.proofs.Checked.{check-exact, check-query-iff}
-
--- a stored book has no column from the width on
-pub stored-below : (w : ℕ) (d : Database) (t : ℕ) → Below w (tableCols w d t)
-stored-below w d t c e = ltb-true c w (and-true-left _ _ e)
 
 -- the book is tested first
 pub data OverReply (w limit : ℕ) (q : Query) (d : Database) (store : List ℕ) : Reply Term → Type 0 where
@@ -35,18 +26,18 @@ module _ (w limit : ℕ) (q : Query) (d : Database) (store : List ℕ) where
     where
       by-book : (y : Reply (Unit {0})) → checkDatabase w d store ≡ y → OverReply w limit q d store (y >>= λ _. checkQuery limit q (schema w d))
       by-book (refused r) e = off-book r e
-      by-book (accepted _) e = on-book (checkQuery limit q (schema w d)) e (check-exact limit q (schema w d) (stored-below w d) _ .0 refl)
+      by-book (accepted _) e = on-book (checkQuery limit q (schema w d)) e (check-exact limit q (schema w d) (table-below w d) _ .0 refl)
 
   over-unique : {x : Reply Term} → OverReply w limit q d store x → checkOver w limit q d store ≡ x
   unfolding checkOver
   over-unique (off-book r e) = rw e
-  over-unique (on-book x e c) = rw e (check-exact limit q (schema w d) (stored-below w d) x .1 c)
+  over-unique (on-book x e c) = rw e (check-exact limit q (schema w d) (table-below w d) x .1 c)
 
   pub check-over-exact : (x : Reply Term) → (checkOver w limit q d store ≡ x) ↔ OverReply w limit q d store x
   check-over-exact x = ((λ e. subst (OverReply w limit q d store) e over-reply), over-unique)
 
   reason : {t : Term} → OverReply w limit q d store (accepted t) → (checkDatabase w d store ≡ accepted tt) × Checked limit q (schema w d) t
-  reason {t} (on-book x e c) = (e, check-query-iff limit q (schema w d) (stored-below w d) t .0 (check-exact limit q (schema w d) (stored-below w d) _ .1 c))
+  reason {t} (on-book x e c) = (e, check-query-iff limit q (schema w d) (table-below w d) t .0 (check-exact limit q (schema w d) (table-below w d) _ .1 c))
 
   pub check-over-iff : (t : Term) → (checkOver w limit q d store ≡ accepted t)
       ↔ ((checkDatabase w d store ≡ accepted tt) × Checked limit q (schema w d) t)

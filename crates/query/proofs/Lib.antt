@@ -17,3 +17,6 @@ pub mod CheckTests
 pub mod Checked
 pub mod CheckedOver
 pub mod Parts
+pub mod PartsFine
+pub mod SwapRead
+pub mod Replaced

@@ -1,21 +1,21 @@
 -- What holds of a term and goes down to operands holds of each of its nodes.
-use mathlib.Core.Path.{_≡_, refl, ap, sym, _∙_, subst}
+use mathlib.Core.Path.{_≡_, refl, sym, _∙_, subst}
 use mathlib.Core.Option.{Option, some, none}
-use mathlib.Core.List.{List, [], _∷_, _++_}
+use mathlib.Core.List.{List, [], _∷_}
 use Prim.Native.Nat.{ℕ, _+_}
-use lib.ListN.{length, take, drop as dropFirst}
+use lib.ListN.{take, drop as dropFirst}
 use Rattle.laws.proofs.Options.{none-some, some-inj}
 use Rattle.laws.proofs.TextLists.{Each}
 use Rattle.algebra.specs.declared.Pairing.{Pairing}
 use Rattle.algebra.specs.declared.Condition.{Condition}
 use Rattle.algebra.specs.Term.{Term, pair, filter, copy, drop, fix}
-use Rattle.algebra.specs.Columns.{size}
-use Rattle.database.specs.Refusals.{Reply, refused, accepted, _>>=_}
+use Rattle.database.specs.Refusals.{accepted}
+use Rattle.database.proofs.Replies.{accepted-refused}
 use Rattle.query.specs.declared.Node.{Node}
 use Rattle.query.specs.declared.Node.the-variants.{Table, Var, Fact, Pair, Filter, Copy, Drop, Fix}
 use Rattle.query.specs.Lines.{takeTwo, takeOne, push, read, termOf}
-use Rattle.query.proofs.Reading.{readOn, read-cons, read-append}
-use Rattle.query.proofs.TermLines.{term-read}
+use Rattle.query.proofs.Reading.{readOn, read-cons}
+use Rattle.query.proofs.Prefix.{read-after}
 
 pub record Downward (P : Term → Type 0) : Type 0 where
   pub of-pair : (o : Pairing) (a b : Term) → P (pair o a b) → P a × P b
@@ -54,10 +54,10 @@ module _ {P : Term → Type 0} (down : Downward P) where
     where
       by-push : (o : Option (List Term)) → push x stack ≡ o → readOn n ns o ≡ accepted next
           → ((between : List Term) → read (n + 1) ns between ≡ accepted next → Each P between) → Each P stack
-      by-push none i j rest = ?
+      by-push none i j rest = accepted-refused (sym j)
       by-push (some between) i j rest = push-down x stack i (rest between j)
 
   -- a: a node of the term t
   pub of-node : (ns : List Node) (t : Term) → termOf ns ≡ accepted t → (n : ℕ) (a : Term) (stack : List Term)
       → read 0 (take n ns) [] ≡ accepted (a ∷ stack) → P t → P a
-  of-node ns t e n a stack i h = ?
+  of-node ns t e n a stack i h = read-down _ (dropFirst n ns) (a ∷ stack) (read-after ns t e n (a ∷ stack) i) (h, tt) .0
