@@ -1,13 +1,13 @@
 -- Lists that must be empty, and members of joined and sifted lists: what the tests of a check ask.
-use mathlib.Core.Path.{_≡_, refl, ap, sym, _∙_}
-use mathlib.Core.Bool.{Bool, true, false, not, _&&_, _||_}
+use mathlib.Core.Path.{_≡_, refl, sym}
+use mathlib.Core.Bool.{Bool, true, false, _||_}
 use mathlib.Core.Logic.{_⊎_, inl, inr, _↔_}
 use mathlib.Core.List.{List, [], _∷_, _++_}
 use Prim.Native.Nat.{ℕ, zero, suc, _<_}
 use native.Mathlib.Omega.{arith}
 use lib.Dec.{eqb}
 use lib.ListN.{length, getD}
-use Rattle.laws.specs.Lists.{if_then_else_, _==_, null, any, member, sift, every}
+use Rattle.laws.specs.Lists.{if_then_else_, _==_, null, any, member, sift}
 use Rattle.laws.proofs.Tests.{true-false, same?}
 use Rattle.laws.proofs.TextLists.{Each, each-map, each-append}
 
@@ -30,6 +30,19 @@ append-none (a ∷ l) m = ((λ e. (cc, cc)), λ h. cc)
 pub null-none : {A : Type 0} (l : List A) → null l ≡ true → l ≡ []
 null-none [] e = refl
 null-none (a ∷ l) e = true-false (sym e)
+
+pub null-split : {A : Type 0} (l m : List A) → null (l ++ m) ≡ true → (null l ≡ true) × (null m ≡ true)
+null-split [] m e = (refl, e)
+null-split (a ∷ l) m e = true-false (sym e)
+
+pub null-both : {A : Type 0} (l m : List A) → null l ≡ true → null m ≡ true → null (l ++ m) ≡ true
+null-both [] m e f = f
+null-both (a ∷ l) m e f = e
+
+pub member-open : (v : ℕ) (l : List ℕ) → member v l ≡ true → null l ≡ false
+unfolding any
+member-open v [] e = sym e
+member-open v (u ∷ l) e = refl
 
 pub member-append : (n : ℕ) (l m : List ℕ) → member n (l ++ m) ≡ member n l || member n m
 unfolding any

@@ -41,4 +41,4 @@ pub data CheckReply (limit : ℕ) (q : Query) (G : Schema) : Reply Term → Type
   -- 4 to 10: the first fault
   faulty : InRange limit q → OnForm (G .width) q (q .count) → (t : Term) → nodes q ≡ lines t → (r : Refusal) (rest : List Refusal)
       → faults G t ≡ r ∷ rest → CheckReply limit q G (refused r)
-  sound : (t : Term) → Checked limit q G t → CheckReply limit q G (accepted t)
+  checked : (t : Term) → Checked limit q G t → CheckReply limit q G (accepted t)

@@ -1,13 +1,13 @@
 -- The proof of `check-exact`: the tests of the check, one after the other.
-use mathlib.Core.Path.{_≡_, refl, ap, sym, _∙_, subst}
+use mathlib.Core.Path.{_≡_, refl, sym, _∙_, subst}
 use mathlib.Core.Bool.{Bool, true, false, _&&_}
 use mathlib.Core.Option.{Option, some, none}
-use mathlib.Core.List.{List, [], _∷_, map}
+use mathlib.Core.List.{List, [], _∷_}
 use mathlib.Core.Logic.{_↔_, inl, inr}
-use Prim.Native.Nat.{ℕ, _+_, _≤_, _<_}
+use Prim.Native.Nat.{ℕ, _+_}
 use native.Mathlib.Omega.{arith}
 use lib.Dec.{leb}
-use lib.ListN.{length, getD, take, length-take, length-map}
+use lib.ListN.{getD, take, length-take, length-map}
 use borrow.Author.Tests.{leb-true, le-leb}
 use Rattle.laws.specs.Lists.{lowest}
 use Rattle.laws.proofs.Tests.{true-false, and-true-left, and-true-right, and-true}
@@ -15,7 +15,6 @@ use Rattle.laws.proofs.RowLists.{lowest-none, lowest-some}
 use Rattle.laws.proofs.Faults.{true-or-false}
 use Rattle.algebra.specs.Term.{Term}
 use Rattle.algebra.specs.Columns.{Schema}
-use Rattle.algebra.specs.WellFormed.{WellFormed}
 use Rattle.algebra.proofs.Narrow.{Below, Narrow}
 use Rattle.database.specs.declared.Refusal.{Refusal}
 use Rattle.database.specs.declared.Refusal.the-variants.{QueryForm, NodeCount}
@@ -28,7 +27,7 @@ use Rattle.query.specs.Check.{faults, checkQuery}
 use Rattle.query.proofs.TermLines.{term-lines}
 use Rattle.query.proofs.CheckedIff.{checked-iff}
 use Rattle.query.proofs.NarrowLines.{narrow-lines}
-use Rattle.query.proofs.CheckReply.{InRange, OnForm, Checked, CheckReply, bad-count, off-form, no-term, faulty, sound}
+use Rattle.query.proofs.CheckReply.{InRange, OnForm, CheckReply, bad-count, off-form, no-term, faulty, checked}
 
 module _ (limit : ℕ) (q : Query) (G : Schema) (tables : (t : ℕ) → Below (G .width) (G .columns t)) where
   -- the tests of the check
@@ -71,7 +70,7 @@ module _ (limit : ℕ) (q : Query) (G : Schema) (tables : (t : ℕ) → Below (G
       → (l : List Refusal) → faults G t ≡ l → CheckReply limit q G (byFaults t l)
   faults-reply h k t i [] e =
       let j = term-lines (nodes q) t .0 i in
-      sound t (record { in-range = h; on-form = k; written = j; well-formed = checked-iff G t (checked-narrow k t j) .0 e })
+      checked t (record { in-range = h; on-form = k; written = j; well-formed = checked-iff G t (checked-narrow k t j) .0 e })
   faults-reply h k t i (r ∷ rest) e = faulty h k t (term-lines (nodes q) t .0 i) r rest e
 
   term-reply : InRange limit q → OnForm (G .width) q (q .count) → (x : Reply Term) → termOf (nodes q) ≡ x → CheckReply limit q G (byTerm x)
@@ -92,7 +91,7 @@ module _ (limit : ℕ) (q : Query) (G : Schema) (tables : (t : ℕ) → Below (G
       by-reason x (off-form h i k e f) = rw (count-range .1 h, lowest-some _ _ i .1 (k, e, f))
       by-reason x (no-term h k r e) = rw (count-range .1 h, lowest-none _ _ .1 k, e)
       by-reason x (faulty h k t e r rest f) = rw (count-range .1 h, lowest-none _ _ .1 k, term-lines (nodes q) t .1 e, f)
-      by-reason x (sound t c) =
+      by-reason x (checked t c) =
           rw (
             count-range .1 (c .in-range),
             lowest-none _ _ .1 (c .on-form),

@@ -9,7 +9,7 @@ use Rattle.algebra.proofs.Narrow.{Below}
 use Rattle.database.specs.Refusals.{Reply, accepted}
 use Rattle.query.specs.declared.Query.{Query}
 use Rattle.query.specs.Check.{checkQuery}
-use Rattle.query.proofs.CheckReply.{Checked, CheckReply, sound}
+use Rattle.query.proofs.CheckReply.{Checked, CheckReply, checked}
 use Rattle.query.proofs.CheckTests.{reply-unique, check-reply}
 
 module _ (limit : ℕ) (q : Query) (G : Schema) (tables : (t : ℕ) → Below (G .width) (G .columns t)) where
@@ -17,7 +17,7 @@ module _ (limit : ℕ) (q : Query) (G : Schema) (tables : (t : ℕ) → Below (G
   check-exact x = ((λ e. subst (CheckReply limit q G) e (check-reply limit q G tables)), reply-unique limit q G tables x)
 
   reason : {t : Term} → CheckReply limit q G (accepted t) → Checked limit q G t
-  reason (sound t c) = c
+  reason (checked t c) = c
 
   pub check-query-iff : (t : Term) → (checkQuery limit q G ≡ accepted t) ↔ Checked limit q G t
-  check-query-iff t = ((λ e. reason (check-exact (accepted t) .0 e)), λ c. check-exact (accepted t) .1 (sound t c))
+  check-query-iff t = ((λ e. reason (check-exact (accepted t) .0 e)), λ c. check-exact (accepted t) .1 (checked t c))

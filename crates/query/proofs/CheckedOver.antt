@@ -11,7 +11,7 @@ use Rattle.database.specs.Refusals.{Reply, refused, accepted, _>>=_}
 use Rattle.database.proofs.Stored.{table-below}
 use Rattle.query.specs.declared.Query.{Query}
 use Rattle.query.specs.Check.{checkQuery, checkOver}
-use Rattle.query.proofs.CheckReply.{Checked, CheckReply, sound}
+use Rattle.query.proofs.CheckReply.{Checked, CheckReply, checked}
 use Rattle.query.proofs.Checked.{check-exact, check-query-iff}
 
 -- the book is tested first
@@ -41,4 +41,4 @@ module _ (w limit : ℕ) (q : Query) (d : Database) (store : List ℕ) where
 
   pub check-over-iff : (t : Term) → (checkOver w limit q d store ≡ accepted t)
       ↔ ((checkDatabase w d store ≡ accepted tt) × Checked limit q (schema w d) t)
-  check-over-iff t = ((λ e. reason (check-over-exact (accepted t) .0 e)), λ (e, c). check-over-exact (accepted t) .1 (on-book (accepted t) e (sound t c)))
+  check-over-iff t = ((λ e. reason (check-over-exact (accepted t) .0 e)), λ (e, c). check-over-exact (accepted t) .1 (on-book (accepted t) e (checked t c)))

@@ -3,17 +3,16 @@ use mathlib.Core.Path.{refl}
 use mathlib.Core.Bool.{Bool, true, false}
 use mathlib.Core.List.{List, [], _∷_, _++_}
 use mathlib.Core.Logic.{inl, inr}
-use Prim.Native.Nat.{ℕ, _+_, _≤_, _<_}
+use Prim.Native.Nat.{ℕ, _+_, _≤_}
 use native.Mathlib.Omega.{arith}
 use Rattle.laws.proofs.TextLists.{Each, each-map, each-append}
-use Rattle.laws.proofs.Faults.{Ordered, ordered-append}
+use Rattle.laws.proofs.Faults.{ordered-append}
 use Rattle.algebra.specs.declared.Pairing.{Pairing}
 use Rattle.algebra.specs.declared.Pairing.the-variants.{Union, Join, Except}
 use Rattle.algebra.specs.Term.{Term, table, var, fact, pair, filter, copy, drop, fix}
 use Rattle.algebra.specs.Columns.{Cols, Schema, cols, size, fixNumbers}
 use Rattle.database.specs.declared.Refusal.{Refusal}
-use Rattle.database.specs.declared.Refusal.the-variants.{Scope, OpenExcept, OpenJoin, OpenFix, HalfOpen, ColumnFault, NoTable}
-use Rattle.database.specs.Refusals.{number, placeOf}
+use Rattle.database.specs.declared.Refusal.the-variants.{Scope, OpenFix, HalfOpen, NoTable}
 use Rattle.query.specs.Check.{unless, pairFaults, firstPass, secondPass}
 use Rattle.query.proofs.InOrder.{LowerNode, Before, Within, InOrder}
 

@@ -1,9 +1,8 @@
 -- Lines on the form name columns below the width, so their term is narrow.
-use mathlib.Core.Path.{_≡_, sym, _∙_, ap}
-use mathlib.Core.Bool.{Bool, true, _&&_}
-use mathlib.Core.List.{List, [], _∷_, _++_}
-use Prim.Native.Nat.{ℕ, zero, suc, _<_}
-use native.Mathlib.Omega.{arith}
+use mathlib.Core.Path.{_≡_}
+use mathlib.Core.Bool.{true}
+use mathlib.Core.List.{List}
+use Prim.Native.Nat.{ℕ, _<_}
 use lib.Dec.{ltb}
 use lib.ListN.{length, getD}
 use borrow.Author.Tests.{ltb-true}
@@ -17,11 +16,11 @@ use Rattle.query.specs.declared.Node.{Node}
 use Rattle.query.specs.declared.Node.the-variants.{Table}
 use Rattle.query.specs.Lines.{onForm, lines}
 
-abbrev OnForm : ℕ → List Node → Type 0
-OnForm w = Each (λ x. onForm w x ≡ true)
+abbrev EachOnForm : ℕ → List Node → Type 0
+EachOnForm w = Each (λ x. onForm w x ≡ true)
 
 module _ (G : Schema) (tables : (t : ℕ) → Below (G .width) (G .columns t)) where
-  lines-narrow : (t : Term) → OnForm (G .width) (lines t) → Narrow G t
+  lines-narrow : (t : Term) → EachOnForm (G .width) (lines t) → Narrow G t
   unfolding lines Narrow
   lines-narrow (table t) h = tables t
   lines-narrow (var v) h = tt

@@ -5,8 +5,7 @@ use mathlib.Core.Logic.{_⊎_, inl, inr}
 use Prim.Native.Nat.{ℕ}
 use lib.ListN.{take}
 use Rattle.algebra.specs.declared.Pairing.{Pairing}
-use Rattle.algebra.specs.declared.Pairing.the-variants.{Union, Join, Except}
-use Rattle.algebra.specs.Term.{Term, pair, filter, copy, drop, fix}
+use Rattle.algebra.specs.Term.{Term, pair}
 use Rattle.algebra.specs.Columns.{Cols, Schema}
 use Rattle.algebra.specs.WellFormed.{Closed, c-pair, c-filter, c-copy, c-drop, c-fix, Path, p-union, p-left, p-right, p-except, p-filter, p-copy, p-drop}
 use Rattle.algebra.proofs.Narrow.{Narrow}

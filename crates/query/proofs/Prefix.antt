@@ -14,11 +14,13 @@ use Rattle.query.specs.Lines.{lines, read, termOf}
 use Rattle.query.proofs.Reading.{read-append, size-lines, flat, unread}
 use Rattle.query.proofs.TermLines.{term-read}
 
--- the lines up to node n put term on the stack of the nodes not yet taken: its lines end at node n
+-- the lines up to node n put term on the stack of the nodes not yet taken: its lines end at node n, after those of the stack
 pub record NodeAt (ns : List Node) (n : ℕ) : Type 0 where
   pub term : Term
   pub stack : List Term
   pub reads : read 0 (take n ns) [] ≡ accepted (term ∷ stack)
+  pub splits : ns ≡ flat stack ++ (lines term ++ drop n ns)
+  pub before : take (n - size term) ns ≡ flat stack
 
 module _ (ns : List Node) (n : ℕ) (a : Term) (stack : List Term) (reads : read 0 (take n ns) [] ≡ accepted (a ∷ stack)) where
   prefix-flat : take n ns ≡ flat stack ++ lines a
@@ -54,4 +56,10 @@ node-at ns t e n h k = by-prefix (read 0 (take n ns) []) refl (sym (read-append 
     by-prefix (refused _) i j = accepted-refused (sym j)
     by-prefix (accepted []) i j =
         absurd (omega (arith, length-take-le n ns k, ap length (unread 0 (take n ns) [] i)))
-    by-prefix (accepted (a ∷ stack)) i j = record { term = a; stack = stack; reads = i }
+    by-prefix (accepted (a ∷ stack)) i j = record {
+      term = a;
+      stack = stack;
+      reads = i;
+      splits = node-lines ns n a stack i;
+      before = node-before ns n a stack i k;
+    }

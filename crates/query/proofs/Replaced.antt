@@ -1,17 +1,17 @@
 -- A term b put in place of the term a that ends at node n: the lines read again to one term, which may be put for the one before.
-use mathlib.Core.Path.{_≡_, ap, sym, _∙_, subst}
+use mathlib.Core.Path.{_≡_, ap, sym, _∙_}
 use mathlib.Core.List.{List, [], _∷_, _++_}
 use Prim.Native.Nat.{ℕ, _+_, _-_, _≤_}
 use native.Mathlib.Omega.{arith}
-use lib.ListN.{length, take, drop as dropFirst, length-append}
+use lib.ListN.{length, take, drop as dropFirst}
 use Rattle.algebra.specs.Term.{Term}
 use Rattle.algebra.specs.Columns.{Schema, size, fixNumbers}
 use Rattle.algebra.specs.WellFormed.{WellFormed}
-use Rattle.algebra.proofs.Swap.{Swap, swap-refl}
-use Rattle.database.specs.Refusals.{Reply, accepted}
+use Rattle.algebra.proofs.Swap.{Swap}
+use Rattle.database.specs.Refusals.{accepted}
 use Rattle.query.specs.declared.Node.{Node}
 use Rattle.query.specs.Lines.{lines, read, termOf}
-use Rattle.query.proofs.Reading.{read-lines, read-flat, size-lines, flat}
+use Rattle.query.proofs.Reading.{read-lines, read-flat, flat}
 use Rattle.query.proofs.TermLines.{term-read, read-term}
 use Rattle.query.proofs.Prefix.{node-lines, node-before}
 use Rattle.query.proofs.Distinct.{distinct-apart, apart-distinct}

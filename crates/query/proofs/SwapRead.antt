@@ -3,7 +3,6 @@ use mathlib.Core.Path.{_≡_, refl, ap, sym, _∙_, subst}
 use mathlib.Core.Option.{Option, some, none}
 use mathlib.Core.List.{List, [], _∷_}
 use Prim.Native.Nat.{ℕ, _+_}
-use Rattle.laws.proofs.Options.{none-some, some-inj}
 use Rattle.algebra.specs.Term.{Term, table, var, fact, pair, filter, copy, drop, fix}
 use Rattle.algebra.specs.Columns.{Schema}
 use Rattle.algebra.proofs.Swap.{Swap, swap-refl, swap-pair, swap-filter, swap-copy, swap-drop, swap-fix}
