@@ -3,3 +3,4 @@ pub mod RuleLines
 pub mod Around
 pub mod RuleExact
 pub mod OnForm
+pub mod RewriteExact
