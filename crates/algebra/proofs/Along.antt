@@ -1,15 +1,13 @@
 -- Stable and unused columns along a path, and what they let ride.
 use mathlib.Core.Path.{_≡_, refl, sym, _∙_}
-use mathlib.Core.Bool.{Bool, true, false, not, _&&_, _||_}
-use mathlib.Core.Logic.{_⊎_, inl, inr}
+use mathlib.Core.Bool.{Bool, true, false, not, _&&_}
 use mathlib.Core.List.{[], _∷_}
 use Prim.Native.Nat.{ℕ}
 use lib.Dec.{eqb}
-use Rattle.laws.specs.Lists.{if_then_else_, member}
-use Rattle.laws.proofs.Tests.{true-false, eqb-self, same?, or-false-left, or-false-right, or-true-left, or-true-right, if-same}
+use Rattle.laws.specs.Lists.{member}
+use Rattle.laws.proofs.Tests.{true-false, eqb-self, or-false-left, or-false-right, or-true-left, or-true-right, if-same}
 use Rattle.laws.proofs.Lists.{member-head, member-tail}
 use Rattle.algebra.specs.declared.Pairing.{Pairing}
-use Rattle.algebra.specs.declared.Pairing.the-variants.{Union, Join, Except}
 use Rattle.algebra.specs.declared.Condition.{Condition}
 use Rattle.algebra.specs.Term.{Term, pair, filter, copy, drop}
 use Rattle.algebra.specs.Columns.{Cols, noCols, with, without, Schema, pairCols, cols, isClosed, named, dropped, beside, used}

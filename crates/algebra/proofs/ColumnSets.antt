@@ -1,14 +1,15 @@
 -- Laws of column sets.
 use mathlib.Core.Path.{_≡_, refl, ap, sym, _∙_, fun-ext}
-use mathlib.Core.Bool.{Bool, true, false, _||_, or-assoc, or-comm, or-false}
-use mathlib.Core.Logic.{_⊎_, inl, inr, _≢_}
+use mathlib.Core.Bool.{Bool, true, false, _||_, or-assoc, or-comm}
+use mathlib.Core.Logic.{inl, inr, _≢_}
 use Prim.Native.Nat.{ℕ}
 use lib.Dec.{eqb}
 use Rattle.laws.specs.Lists.{if_then_else_}
 use Rattle.laws.proofs.Tests.{same?, or-swap, or-true-right}
-use Rattle.algebra.specs.declared.Pairing.{Pairing}
-use Rattle.algebra.specs.declared.Pairing.the-variants.{Union, Join, Except}
-use Rattle.algebra.specs.Columns.{Cols, with, without, both, pairCols}
+use Rattle.algebra.specs.Columns.{Cols, with, without, both}
+
+pub same-at : {D E : Cols} → D ≡ E → (c : ℕ) → D c ≡ E c
+same-at e c = ap (λ (D : Cols). D c) e
 
 pub both-comm : (D E : Cols) → both D E ≡ both E D
 unfolding both

@@ -1,17 +1,22 @@
--- The columns of a mapping.
+-- The columns of a mapping, and tables whose mappings have theirs.
 use mathlib.Core.Path.{_≡_, refl, _∙_}
 use mathlib.Core.Bool.{true, _||_}
 use mathlib.Core.Option.{Option, some, none}
-use Prim.Native.Nat.{ℕ}
+use Prim.Native.Nat.{ℕ, _<_}
 use lib.Dec.{eqb}
 use Rattle.laws.proofs.Tests.{if-apply}
 use Rattle.algebra.specs.Mapping.{Mapping, orElse, combine, put, nothing}
-use Rattle.algebra.specs.Columns.{Cols, noCols, with, without, both}
+use Rattle.algebra.specs.Term.{Environment}
+use Rattle.algebra.specs.Columns.{Cols, noCols, with, without, both, Schema}
 use Rattle.algebra.proofs.Mappings.{isSome}
 
 -- the mapping has values in exactly these columns
 unfoldable pub Domain : Mapping → Cols → Type 0
 Domain m D = (c : ℕ) → isSome (m c) ≡ D c
+
+-- each mapping of a table has exactly the table's columns
+abbrev pub TypedTables : Schema → Environment → Type 0
+TypedTables G T = (t : ℕ) → t < G .tables → (m : Mapping) → T t m → Domain m (G .columns t)
 
 either-some : (o p : Option ℕ) → isSome (orElse o p) ≡ isSome o || isSome p
 either-some none p = refl

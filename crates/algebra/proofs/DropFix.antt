@@ -1,7 +1,7 @@
 -- Kind 5: a column that the step does not use is dropped after a fix or in its seed alike.
 use mathlib.Core.Path.{_≡_, refl, ap, sym, _∙_, subst, fun-ext}
 use mathlib.Core.Option.{Option, none}
-use mathlib.Core.Logic.{_⊎_, inl, inr, _↔_}
+use mathlib.Core.Logic.{inl, inr, _↔_}
 use Prim.Native.Nat.{ℕ}
 use Rattle.laws.proofs.Tests.{same?}
 use Rattle.algebra.specs.Mapping.{Mapping, combine, put, nothing}
@@ -9,8 +9,8 @@ use Rattle.algebra.specs.Term.{Term, drop, fix, Environment, bind, meani
 use Rattle.algebra.specs.Columns.{Cols, Schema}
 use Rattle.algebra.specs.WellFormed.{Path}
 use Rattle.algebra.proofs.Mappings.{or-none, only}
+use Rattle.algebra.proofs.Domain.{TypedTables}
 use Rattle.algebra.proofs.Linear.{start, next, Lineage, lineage}
-use Rattle.algebra.proofs.Typing.{TypedTables}
 use Rattle.algebra.proofs.Ride.{Rides, stay-alongside, ride, unride}
 use Rattle.algebra.proofs.Roles.{lone, lone-alongside, alongside-lone}
 

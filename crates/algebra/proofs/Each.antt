@@ -1,10 +1,10 @@
 -- A fact of each column that a filter names.
-use mathlib.Core.Path.{_≡_, sym, _∙_}
-use mathlib.Core.Bool.{Bool, true, _&&_}
+use mathlib.Core.Path.{_≡_, refl, sym, _∙_}
+use mathlib.Core.Bool.{Bool, true}
 use mathlib.Core.List.{List, [], _∷_}
 use Prim.Native.Nat.{ℕ}
 use Rattle.laws.specs.Lists.{every, member}
-use Rattle.laws.proofs.Tests.{and-true-left, and-true-right}
+use Rattle.laws.proofs.Tests.{and-true, and-true-left, and-true-right}
 use Rattle.laws.proofs.Lists.{member-head, member-tail}
 use Rattle.algebra.specs.declared.Condition.{Condition}
 use Rattle.algebra.specs.declared.Condition.the-variants.{Eq, Ne, Max, Same}
@@ -29,6 +29,11 @@ pub every-each : (l : List ℕ) (p : ℕ → Bool) → every p l ≡ true → Ea
 unfolding every
 every-each [] p e = tt
 every-each (c ∷ l) p e = (and-true-left (p c) (every p l) e, every-each l p (and-true-right (p c) (every p l) e))
+
+pub each-every : (l : List ℕ) (p : ℕ → Bool) → Each (λ c. p c ≡ true) l → every p l ≡ true
+unfolding every
+each-every [] p h = refl
+each-every (c ∷ l) p (e, h) = and-true (p c) (every p l) e (each-every l p h)
 
 -- a filter sees only the columns that it names
 pub holds-same : (f : Condition) (x y : Mapping) → Each (λ c. x c ≡ y c) (named f) → Holds f x → Holds f y

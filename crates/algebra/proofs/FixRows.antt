@@ -8,9 +8,9 @@ use Rattle.algebra.specs.Term.{Term, fix, Environment, bind, meaning}
 use Rattle.algebra.specs.Columns.{Cols, noCols, Schema, cols}
 use Rattle.algebra.specs.WellFormed.{Closed, c-fix, Path}
 use Rattle.algebra.proofs.Mappings.{isSome, present, only}
-use Rattle.algebra.proofs.Domain.{Domain, domain-at}
+use Rattle.algebra.proofs.Domain.{Domain, TypedTables, domain-at}
 use Rattle.algebra.proofs.Linear.{Lineage, lineage}
-use Rattle.algebra.proofs.Typing.{TypedTables, closed-typed}
+use Rattle.algebra.proofs.Typing.{closed-typed}
 use Rattle.algebra.proofs.Rider.{alongside-compatible}
 use Rattle.algebra.proofs.Ride.{Rides, stay-alongside, ride, unride}
 use Rattle.algebra.proofs.Roles.{kept, kept-alongside, alongside-kept, shared-kept, joined, joined-alongside}

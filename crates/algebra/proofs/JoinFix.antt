@@ -8,8 +8,9 @@ use Rattle.algebra.specs.Term.{Term, pair, fix, Environment, bind, paire
 use Rattle.algebra.specs.Columns.{noCols, Schema, cols}
 use Rattle.algebra.specs.WellFormed.{Closed}
 use Rattle.algebra.proofs.Mappings.{only, join-comm}
+use Rattle.algebra.proofs.Domain.{TypedTables}
 use Rattle.algebra.proofs.Linear.{start, next, chain-seed, Lineage, lineage}
-use Rattle.algebra.proofs.Typing.{TypedTables, closed-typed}
+use Rattle.algebra.proofs.Typing.{closed-typed}
 use Rattle.algebra.proofs.Ride.{Rides}
 use Rattle.algebra.proofs.Roles.{joined}
 use Rattle.algebra.proofs.FixRows.{ClosedFix, compatible-back, join-rides, join-unrides}

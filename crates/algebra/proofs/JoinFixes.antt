@@ -1,6 +1,6 @@
 -- Kind 6: two fixes joined become one, with the seeds joined and the steps united.
 use mathlib.Core.Path.{_≡_, ap, sym, _∙_, subst}
-use mathlib.Core.Logic.{_⊎_, inl, inr, _↔_}
+use mathlib.Core.Logic.{inl, inr, _↔_}
 use Prim.Native.Nat.{ℕ}
 use Rattle.algebra.specs.declared.Pairing.the-variants.{Union, Join}
 use Rattle.algebra.specs.Mapping.{Mapping, Relation, Compatible, combine}
@@ -9,9 +9,9 @@ use Rattle.algebra.specs.Columns.{Cols, noCols, both, Schema, pairCols, 
 use Rattle.algebra.specs.WellFormed.{Path, p-union}
 use Rattle.algebra.specs.Rules.{rename}
 use Rattle.algebra.proofs.Mappings.{combine-comm, compatible-sym, only}
+use Rattle.algebra.proofs.Domain.{TypedTables}
 use Rattle.algebra.proofs.ColumnSets.{both-comm}
 use Rattle.algebra.proofs.Linear.{start, next, chain-step, Lineage, lineage}
-use Rattle.algebra.proofs.Typing.{TypedTables}
 use Rattle.algebra.proofs.Ride.{Rides}
 use Rattle.algebra.proofs.Roles.{joined, joined-outside}
 use Rattle.algebra.proofs.Widen.{widen}

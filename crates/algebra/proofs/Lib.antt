@@ -23,5 +23,7 @@ pub mod Redex
 pub mod Enough
 pub mod Written
 pub mod Sound
+pub mod Distinct
 pub mod Alike
 pub mod Swap
+pub mod Conditions

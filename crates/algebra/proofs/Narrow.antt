@@ -1,7 +1,7 @@
 -- Terms whose columns all lie below the width, so that a test of the columns below it is a test of all.
-use mathlib.Core.Path.{_≡_, refl, sym, _∙_}
+use mathlib.Core.Path.{_≡_, refl, sym}
 use mathlib.Core.Bool.{Bool, true, false, _||_}
-use mathlib.Core.Logic.{_⊎_, inl, inr}
+use mathlib.Core.Logic.{inl, inr}
 use Prim.Native.Nat.{ℕ, _<_}
 use Rattle.laws.proofs.Tests.{true-false, same?}
 use Rattle.algebra.specs.declared.Pairing.{Pairing}

@@ -1,10 +1,10 @@
 -- A closed term has no free variable, a path has its own and no other; so `isClosed` tells them apart.
-use mathlib.Core.Path.{_≡_, refl, ap₂, sym, _∙_}
+use mathlib.Core.Path.{_≡_, refl, sym, _∙_}
 use mathlib.Core.Bool.{true, false, not}
 use mathlib.Core.List.{List, [], _∷_, _++_}
 use Prim.Native.Nat.{ℕ}
 use lib.Dec.{eqb}
-use Rattle.laws.specs.Lists.{null, sift}
+use Rattle.laws.specs.Lists.{sift}
 use Rattle.laws.proofs.Tests.{true-false, eqb-self}
 use Rattle.laws.proofs.Lists.{null-append, sift-append}
 use Rattle.algebra.specs.Term.{Term}

@@ -1,18 +1,18 @@
 -- The renamed step of kind 6: where `var=u` becomes `var=v`, a path of u becomes one of v with the same columns and meaning.
 use mathlib.Core.Path.{_≡_, refl, ap, ap₂, sym, _∙_, subst}
 use mathlib.Core.List.{List, _++_}
-use mathlib.Core.Logic.{_⊎_, inl, inr}
+use mathlib.Core.Logic.{inl, inr}
 use Prim.Native.Nat.{ℕ}
 use lib.Dec.{eqb}
 use Rattle.laws.specs.Lists.{if_then_else_}
 use Rattle.laws.proofs.Tests.{eqb-self}
-use Rattle.algebra.specs.declared.Pairing.the-variants.{Union, Join, Except}
-use Rattle.algebra.specs.Mapping.{Mapping, Relation}
+use Rattle.algebra.specs.Mapping.{Relation}
 use Rattle.algebra.specs.Term.{Term, table, var, fact, pair, filter, copy, drop, fix, Environment, bind, paired, meaning}
 use Rattle.algebra.specs.Columns.{Cols, with, without, both, Schema, pairCols, cols, named, size, fixNumbers}
 use Rattle.algebra.specs.WellFormed.{Closed, c-table, c-fact, c-pair, c-filter, c-copy, c-drop, c-fix, Path, p-var, p-union, p-left, p-right, p-except, p-filter, p-copy, p-drop}
 use Rattle.algebra.specs.Rules.{rename}
 use Rattle.algebra.proofs.Mappings.{Within, bind-in, bind-out}
+use Rattle.algebra.proofs.ColumnSets.{same-at}
 use Rattle.algebra.proofs.Each.{each-map}
 use Rattle.algebra.proofs.Linear.{closed-independent}
 
@@ -56,9 +56,6 @@ var-renamed u v = rw (eqb-self u)
 closed-renamed : {G : Schema} (u v : ℕ) {t : Term} → Closed G t → Closed G (rename u v t)
 closed-renamed {G} u v p = subst (Closed G) (sym (rename-closed u v p)) p
 
-at : {D E : Cols} → D ≡ E → (c : ℕ) → D c ≡ E c
-at e c = ap (λ (D : Cols). D c) e
-
 -- the renamed step is a path as the step was, with the same columns
 pub rename-path : {G : Schema} {u : ℕ} {C : Cols} {t : Term} (v : ℕ) → Path G u C t
     → Path G v C (rename u v t) × (cols G C (rename u v t) ≡ cols G C t)
@@ -76,11 +73,11 @@ rename-path {G} {u} {C} v (p-right p q) =
     (p-right (closed-renamed u v p) q′, ap₂ both (ap (cols G C) (rename-closed u v p)) i)
 rename-path {G} {u} v (p-except p q) = let (p′, i) = rename-path v p in (p-except p′ (closed-renamed u v q), i)
 rename-path v (p-filter {f = f} p e) =
-    let (p′, i) = rename-path v p in (p-filter p′ (each-map (named f) (λ c g. at i c ∙ g) e), i)
+    let (p′, i) = rename-path v p in (p-filter p′ (each-map (named f) (λ c g. same-at i c ∙ g) e), i)
 rename-path v (p-copy {c = c} {d = d} p e g) =
-    let (p′, i) = rename-path v p in (p-copy p′ (at i c ∙ e) (at i d ∙ g), ap (λ (D : Cols). with D d) i)
+    let (p′, i) = rename-path v p in (p-copy p′ (same-at i c ∙ e) (same-at i d ∙ g), ap (λ (D : Cols). with D d) i)
 rename-path v (p-drop {c = c} p e) =
-    let (p′, i) = rename-path v p in (p-drop p′ (at i c ∙ e), ap (λ (D : Cols). without D c) i)
+    let (p′, i) = rename-path v p in (p-drop p′ (same-at i c ∙ e), ap (λ (D : Cols). without D c) i)
 
 module _ (G : Schema) (T : Environment) (ρ : Environment) (u v : ℕ) (S : Relation) where
   to-closed : {t : Term} → Closed G t → Within (meaning T t (bind ρ u S)) (meaning T (rename u v t) (bind ρ v S))

@@ -2,17 +2,17 @@
 use mathlib.Core.Path.{_≡_, refl, ap, sym, _∙_}
 use mathlib.Core.Bool.{true}
 use mathlib.Core.Option.{none}
-use mathlib.Core.Logic.{_⊎_, inl, inr}
+use mathlib.Core.Logic.{inl, inr}
 use Prim.Native.Nat.{ℕ}
-use Rattle.algebra.specs.declared.Pairing.the-variants.{Union, Join, Except}
 use Rattle.algebra.specs.Mapping.{Mapping, combine, put}
 use Rattle.algebra.specs.Term.{Term, Environment, bind, paired, meaning}
 use Rattle.algebra.specs.Columns.{Cols, noCols, Schema, cols, named}
 use Rattle.algebra.specs.WellFormed.{Each, Closed, Path, p-var, p-union, p-left, p-right, p-except, p-filter, p-copy, p-drop}
 use Rattle.algebra.proofs.Mappings.{isSome, combine-assoc, compatible-sym, only, bind-in, bind-out}
+use Rattle.algebra.proofs.Domain.{TypedTables}
 use Rattle.algebra.proofs.Each.{each-map, holds-same}
 use Rattle.algebra.proofs.Linear.{closed-independent}
-use Rattle.algebra.proofs.Typing.{TypedTables, closed-typed}
+use Rattle.algebra.proofs.Typing.{closed-typed}
 use Rattle.algebra.proofs.Rider.{Role, outside, NotExtra, Clear, Alongside, quiet, alongside-put, alongside-left, alongside-right, rider-last, compatible-with, compatible-without, rider-put, rider-same, rider-each}
 
 -- a rider with these roles can go along the path
@@ -74,7 +74,8 @@ module _ (G : Schema) (T : Environment) (tables : TypedTables G T) (ρ : Environ
   ride (p-right p q) (d, d′) x h y (u, w, r, s, f, e) =
       let i = stay-alongside q d′ x h w s in
       let b = operand-quiet u p _ r d in
-      (u, combine w z, closed-independent G T p _ _ u r, ride q d′ x h w s, compatible-sym _ _ (compatible-with k z w u i b (compatible-sym _ _ f)), rw e (combine-assoc u w z))
+      let g = compatible-sym _ _ (compatible-with k z w u i b (compatible-sym _ _ f)) in
+      (u, combine w z, closed-independent G T p _ _ u r, ride q d′ x h w s, g, rw e (combine-assoc u w z))
   ride (p-except p q) (d, d′) x h y (r, n) =
       (ride p d x h y r, λ u s f. n u (closed-independent G T q _ _ u s) (compatible-without k z y u f))
   ride (p-filter {f = f} p _) (d, d′) x h y (r, n) =
@@ -96,21 +97,37 @@ module _ (G : Schema) (T : Environment) (tables : TypedTables G T) (ρ : Environ
   unride (p-left p q) (d, d′) x h y (w, u, r, s, f, e) =
       let (w′, r′, g) = unride p d x h w r in
       let i = stay-alongside p d x h w′ r′ in
-      let b = operand-quiet u q _ s d′ in
-      (combine w′ u, (w′, u, r′, closed-independent G T q _ _ u s, compatible-without k z w′ u (rw g at f), refl), e ∙ ap (λ (o : Mapping). combine o u) g ∙ sym (rider-last k z w′ u i b))
+      let b = operand-quiet u q _ s d′ in (
+        combine w′ u,
+        (w′, u, r′, closed-independent G T q _ _ u s, compatible-without k z w′ u (rw g at f), refl),
+        e ∙ ap (λ (o : Mapping). combine o u) g ∙ sym (rider-last k z w′ u i b),
+      )
   unride (p-right p q) (d, d′) x h y (u, w, r, s, f, e) =
       let (w′, r′, g) = unride q d′ x h w s in
-      (combine u w′, (u, w′, closed-independent G T p _ _ u r, r′, compatible-sym _ _ (compatible-without k z w′ u (compatible-sym _ _ (rw g at f))), refl), e ∙ ap (combine u) g ∙ sym (combine-assoc u w′ z))
+      let f′ = compatible-sym _ _ (compatible-without k z w′ u (compatible-sym _ _ (rw g at f))) in (
+        combine u w′,
+        (u, w′, closed-independent G T p _ _ u r, r′, f′, refl),
+        e ∙ ap (combine u) g ∙ sym (combine-assoc u w′ z),
+      )
   unride (p-except p q) (d, d′) x h y (r, n) =
       let (w, r′, g) = unride p d x h y r in
-      (w, (r′, λ u s f. n u (closed-independent G T q _ _ u s) (rw g (compatible-with k z w u (stay-alongside p d x h w r′) (operand-quiet u q _ s d′) f))), g)
+      let i = stay-alongside p d x h w r′ in
+      (w, (r′, λ u s f. n u (closed-independent G T q _ _ u s) (rw g (compatible-with k z w u i (operand-quiet u q _ s d′) f))), g)
   unride (p-filter {f = f} p _) (d, d′) x h y (r, n) =
       let (w, r′, g) = unride p d x h y r in
-      (w, (r′, holds-same f (combine w z) w (each-map (named f) (λ c e. sym e) (rider-each k z w (named f) (stay-alongside p d x h w r′) d′)) (rw g at n)), g)
+      let i = rider-each k z w (named f) (stay-alongside p d x h w r′) d′ in
+      (w, (r′, holds-same f (combine w z) w (each-map (named f) (λ c e. sym e) i) (rw g at n)), g)
   unride (p-copy {c = c} {d = e} p _ _) (d, a, d′) x h y (w, r, g) =
       let (w′, r′, j) = unride p d x h w r in
-      let i = stay-alongside p d x h w′ r′ in
-      (put w′ e (w′ c), (w′, r′, refl), g ∙ ap (λ (o : Mapping). put o e (o c)) j ∙ sym (rider-put k z w′ e (w′ c) _ d′ i (rider-same k z w′ c i a)))
+      let i = stay-alongside p d x h w′ r′ in (
+        put w′ e (w′ c),
+        (w′, r′, refl),
+        g ∙ ap (λ (o : Mapping). put o e (o c)) j ∙ sym (rider-put k z w′ e (w′ c) _ d′ i (rider-same k z w′ c i a)),
+      )
   unride (p-drop {c = c} p _) (d, d′) x h y (w, r, g) =
       let (w′, r′, j) = unride p d x h w r in
-      (put w′ c none, (w′, r′, refl), g ∙ ap (λ (o : Mapping). put o c none) j ∙ sym (rider-put k z w′ c none none d′ (stay-alongside p d x h w′ r′) refl))
+      let i = stay-alongside p d x h w′ r′ in (
+        put w′ c none,
+        (w′, r′, refl),
+        g ∙ ap (λ (o : Mapping). put o c none) j ∙ sym (rider-put k z w′ c none none d′ i refl),
+      )

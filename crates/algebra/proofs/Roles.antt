@@ -2,11 +2,11 @@
 use mathlib.Core.Path.{_≡_, refl, ap, sym, _∙_}
 use mathlib.Core.Bool.{Bool, true, false}
 use mathlib.Core.Option.{Option, some, none}
-use mathlib.Core.Logic.{_⊎_, inl, inr, _≢_}
+use mathlib.Core.Logic.{inl, inr, _≢_}
 use Prim.Native.Nat.{ℕ}
 use lib.Dec.{eqb}
 use Rattle.laws.specs.Lists.{if_then_else_}
-use Rattle.laws.proofs.Tests.{true-false, eqb-self, same?}
+use Rattle.laws.proofs.Tests.{eqb-self, same?}
 use Rattle.algebra.specs.Mapping.{Mapping, Compatible, put, nothing}
 use Rattle.algebra.specs.Term.{Term}
 use Rattle.algebra.specs.Columns.{Cols, Schema, dropped, used}
@@ -15,7 +15,7 @@ use Rattle.algebra.proofs.Mappings.{isSome, present, absent}
 use Rattle.algebra.proofs.Domain.{Domain}
 use Rattle.algebra.proofs.Rider.{Role, outside, shared, extra, Entry, NotExtra, Clear, Alongside}
 use Rattle.algebra.proofs.Ride.{Rides, rides-map}
-use Rattle.algebra.proofs.Along.{Allowed, Allows, allowed-rides}
+use Rattle.algebra.proofs.Along.{Allowed, allowed-rides}
 
 -- a rider with the one column c, which the rows have too
 abbrev pub kept : ℕ → ℕ → Role
@@ -38,7 +38,8 @@ unfolding Allowed
 kept-rides q c i d = allowed-rides q (record { column = λ e. elim (same? e c) [ inl p ↦ rw (p .1, p .0) (d, i) | inr p ↦ rw (p .1) tt ] })
 
 -- what a rider shares with the rows is kept
-pub shared-kept : {G : Schema} {v : ℕ} {C : Cols} {t : Term} (k : ℕ → Role) (c : ℕ) → k c ≡ shared → (q : Path G v C t) → Rides k q → Rides (kept c) q
+pub shared-kept : {G : Schema} {v : ℕ} {C : Cols} {t : Term} (k : ℕ → Role) (c : ℕ) → k c ≡ shared
+    → (q : Path G v C t) → Rides k q → Rides (kept c) q
 unfolding NotExtra
 shared-kept k c e q d = rides-map k (kept c) (λ a _. clear (eqb a c)) beyond q d
   where

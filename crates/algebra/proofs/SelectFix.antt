@@ -9,10 +9,11 @@ use Rattle.algebra.specs.Mapping.{Mapping, Relation, Compatible}
 use Rattle.algebra.specs.Term.{Term, pair, filter, fix, Holds, Environment, bind, paired, meaning}
 use Rattle.algebra.specs.Columns.{noCols, Schema, cols, named}
 use Rattle.algebra.specs.WellFormed.{Each, Closed}
-use Rattle.algebra.proofs.Mappings.{Within, only}
+use Rattle.algebra.proofs.Mappings.{only}
+use Rattle.algebra.proofs.Domain.{TypedTables}
 use Rattle.algebra.proofs.Each.{each-map, holds-same}
 use Rattle.algebra.proofs.Linear.{Chain, start, next, Lineage, lineage}
-use Rattle.algebra.proofs.Typing.{TypedTables, closed-typed}
+use Rattle.algebra.proofs.Typing.{closed-typed}
 use Rattle.algebra.proofs.Ride.{Rides}
 use Rattle.algebra.proofs.Roles.{kept}
 use Rattle.algebra.proofs.FixRows.{ClosedFix, agree-compatible, row-domain, row-keeps}

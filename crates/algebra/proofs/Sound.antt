@@ -10,7 +10,7 @@ use Rattle.algebra.specs.Term.{Term, Environment, meaning}
 use Rattle.algebra.specs.Columns.{Cols, noCols, Schema, cols, size, fixNumbers}
 use Rattle.algebra.specs.WellFormed.{Closed, Path}
 use Rattle.algebra.specs.Rules.{Match, match, stableEnough, unusedEnough, closedEnough, written}
-use Rattle.algebra.proofs.Typing.{TypedTables}
+use Rattle.algebra.proofs.Domain.{TypedTables}
 use Rattle.algebra.proofs.Narrow.{Narrow}
 use Rattle.algebra.proofs.Redex.{redex, matched}
 use Rattle.algebra.proofs.Enough.{enough}
@@ -49,6 +49,7 @@ rule-sound {G} {a} p n k C m found e e′ =
 pub match-closed : {G : Schema} {a : Term} → Closed G a → (k : ℕ) (m : Match) → match k a ≡ some m → closedEnough m ≡ true
 match-closed {G} {a} p k m found = closed-passes m (subst (Closed G) (matched k a found) p)
 
--- at an open node no rule is accepted: kinds 1, 5 and 6 match only a closed node, 2 to 4 only one with an open operand
-pub match-open : {G : Schema} {v : ℕ} {D : Cols} {a : Term} → Path G v D a → (k : ℕ) (m : Match) → match k a ≡ some m → closedEnough m ≡ true → ⊥
+-- at an open node no rule is accepted: a fix is closed, so kinds 1, 5 and 6 match nothing there, and in 2 to 4 the other operand is the open one
+pub match-open : {G : Schema} {v : ℕ} {D : Cols} {a : Term} → Path G v D a → (k : ℕ) (m : Match) → match k a ≡ some m
+    → closedEnough m ≡ true → ⊥
 match-open {G} {v} {D} {a} p k m found e = open-fails m (subst (Path G v D) (matched k a found) p) e

@@ -1,22 +1,23 @@
 -- A term may be put for another anywhere in a term: what the two agree on, every term around them agrees on.
 use mathlib.Core.Path.{_≡_, refl, ap, ap₂, sym, _∙_}
-use mathlib.Core.Logic.{_↔_}
-use mathlib.Core.List.{List, [], _∷_, _++_}
-use Prim.Native.Nat.{ℕ, _+_, _≤_}
+use Prim.Native.Nat.{ℕ, _≤_}
 use native.Mathlib.Omega.{arith}
 use Rattle.laws.proofs.Lists.{count, count-append}
 use Rattle.algebra.specs.declared.Pairing.{Pairing}
 use Rattle.algebra.specs.declared.Pairing.the-variants.{Union, Join, Except}
 use Rattle.algebra.specs.declared.Condition.{Condition}
-use Rattle.algebra.specs.Term.{Term, pair, filter, copy, drop, fix, Environment, meaning}
+use Rattle.algebra.specs.Term.{Term, pair, filter, copy, drop, fix, Environment}
 use Rattle.algebra.specs.Columns.{Cols, noCols, with, without, both, Schema, pairCols, cols, named, size, fixNumbers}
-use Rattle.algebra.specs.WellFormed.{Each, Sides, Closed, c-pair, c-filter, c-copy, c-drop, c-fix, Path, p-union, p-left, p-right, p-except, p-filter, p-copy, p-drop}
+use Rattle.algebra.specs.WellFormed.{Sides, Closed, c-pair, c-filter, c-copy, c-drop, c-fix, Path, p-union, p-left, p-right, p-except, p-filter, p-copy, p-drop, WellFormed}
+use Rattle.algebra.proofs.Domain.{TypedTables}
+use Rattle.algebra.proofs.ColumnSets.{same-at}
 use Rattle.algebra.proofs.Each.{each-map}
-use Rattle.algebra.proofs.Typing.{TypedTables, cols-closed}
+use Rattle.algebra.proofs.Typing.{cols-closed}
 use Rattle.algebra.proofs.Open.{closed-no-path}
 use Rattle.algebra.proofs.Narrow.{Narrow}
 use Rattle.algebra.proofs.Sound.{Sound}
-use Rattle.algebra.proofs.Alike.{Alike, alike, alike-pair, alike-filter, alike-copy, alike-drop, alike-fix}
+use Rattle.algebra.proofs.Distinct.{distinct-count, count-distinct}
+use Rattle.algebra.proofs.Alike.{Alike, alike, alike-trans, alike-pair, alike-filter, alike-copy, alike-drop, alike-fix}
 
 -- b may be put for a
 pub record Swap (G : Schema) (a b : Term) : Type 1 where
@@ -52,11 +53,26 @@ swap-sound {G} {a} {b} p s = record {
   same-size = s .same-size;
 }
 
-at : {D E : Cols} → D ≡ E → (c : ℕ) → D c ≡ E c
-at e c = ap (λ (D : Cols). D c) e
+pub swap-trans : {G : Schema} {a b c : Term} → Swap G a b → Swap G b c → Swap G a c
+swap-trans {G} {a} {b} {c} h k = record {
+  closed = λ p. let (q, i) = h .closed p in let (r, j) = k .closed q in (r, j ∙ i);
+  path = λ v C p. let (q, i) = h .path v C p in let (r, j) = k .path v C q in (r, j ∙ i);
+  keeps = λ T tables. alike-trans (h .keeps T tables) (k .keeps T tables);
+  narrow = λ n. k .narrow (h .narrow n);
+  numbers = λ n. let i = h .numbers n in let j = k .numbers n in omega arith;
+  same-size = k .same-size ∙ h .same-size;
+}
+
+-- what may be put for a well-formed term is well-formed
+pub swap-wellformed : {G : Schema} {a b : Term} → Swap G a b → WellFormed G a → WellFormed G b
+swap-wellformed {G} {a} {b} h w = record {
+  closed = h .closed (w .closed) .0;
+  distinct = count-distinct (fixNumbers b) (λ n. let i = h .numbers n in omega (arith, distinct-count (fixNumbers a) (w .distinct) n));
+}
 
 -- a closed term's columns, whatever the variable's
-closed-cols : {G : Schema} {a a′ : Term} (C : Cols) → Closed G a → Closed G a′ → cols G noCols a′ ≡ cols G noCols a → cols G C a′ ≡ cols G C a
+closed-cols : {G : Schema} {a a′ : Term} (C : Cols) → Closed G a → Closed G a′
+    → cols G noCols a′ ≡ cols G noCols a → cols G C a′ ≡ cols G C a
 closed-cols {G} C p p′ i = cols-closed G C noCols p′ ∙ i ∙ cols-closed G noCols C p
 
 sides-same : (o : Pairing) {D D′ E E′ : Cols} → D′ ≡ D → E′ ≡ E → Sides o D E → Sides o D′ E′
@@ -101,8 +117,8 @@ module _ {G : Schema} where
   pub swap-filter : {a a′ : Term} (f : Condition) → Swap G a a′ → Swap G (filter f a) (filter f a′)
   unfolding cols Narrow fixNumbers size
   swap-filter f h = record {
-    closed = elim [ c-filter p e ↦ let (p′, i) = h .closed p in (c-filter p′ (each-map (named f) (λ c g. at i c ∙ g) e), i) ];
-    path = λ v C. elim [ p-filter p e ↦ let (p′, i) = h .path v C p in (p-filter p′ (each-map (named f) (λ c g. at i c ∙ g) e), i) ];
+    closed = elim [ c-filter p e ↦ let (p′, i) = h .closed p in (c-filter p′ (each-map (named f) (λ c g. same-at i c ∙ g) e), i) ];
+    path = λ v C. elim [ p-filter p e ↦ let (p′, i) = h .path v C p in (p-filter p′ (each-map (named f) (λ c g. same-at i c ∙ g) e), i) ];
     keeps = λ T tables. alike-filter f (h .keeps T tables);
     narrow = h .narrow;
     numbers = h .numbers;
@@ -112,8 +128,8 @@ module _ {G : Schema} where
   pub swap-copy : {a a′ : Term} (c d : ℕ) → Swap G a a′ → Swap G (copy c d a) (copy c d a′)
   unfolding cols Narrow fixNumbers size
   swap-copy c d h = record {
-    closed = elim [ c-copy p e g ↦ let (p′, i) = h .closed p in (c-copy p′ (at i c ∙ e) (at i d ∙ g), ap (λ (D : Cols). with D d) i) ];
-    path = λ v C. elim [ p-copy p e g ↦ let (p′, i) = h .path v C p in (p-copy p′ (at i c ∙ e) (at i d ∙ g), ap (λ (D : Cols). with D d) i) ];
+    closed = elim [ c-copy p e g ↦ let (p′, i) = h .closed p in (c-copy p′ (same-at i c ∙ e) (same-at i d ∙ g), ap (λ (D : Cols). with D d) i) ];
+    path = λ v C. elim [ p-copy p e g ↦ let (p′, i) = h .path v C p in (p-copy p′ (same-at i c ∙ e) (same-at i d ∙ g), ap (λ (D : Cols). with D d) i) ];
     keeps = λ T tables. alike-copy c d (h .keeps T tables);
     narrow = λ (i, n). (i, h .narrow n);
     numbers = h .numbers;
@@ -123,8 +139,8 @@ module _ {G : Schema} where
   pub swap-drop : {a a′ : Term} (c : ℕ) → Swap G a a′ → Swap G (drop c a) (drop c a′)
   unfolding cols Narrow fixNumbers size
   swap-drop c h = record {
-    closed = elim [ c-drop p e ↦ let (p′, i) = h .closed p in (c-drop p′ (at i c ∙ e), ap (λ (D : Cols). without D c) i) ];
-    path = λ v C. elim [ p-drop p e ↦ let (p′, i) = h .path v C p in (p-drop p′ (at i c ∙ e), ap (λ (D : Cols). without D c) i) ];
+    closed = elim [ c-drop p e ↦ let (p′, i) = h .closed p in (c-drop p′ (same-at i c ∙ e), ap (λ (D : Cols). without D c) i) ];
+    path = λ v C. elim [ p-drop p e ↦ let (p′, i) = h .path v C p in (p-drop p′ (same-at i c ∙ e), ap (λ (D : Cols). without D c) i) ];
     keeps = λ T tables. alike-drop c (h .keeps T tables);
     narrow = h .narrow;
     numbers = h .numbers;

@@ -3,8 +3,8 @@ use Rattle.algebra.specs.Mapping.{Mapping}
 use Rattle.algebra.specs.Term.{Term, Environment, meaning}
 use Rattle.algebra.specs.Columns.{noCols, Schema, cols}
 use Rattle.algebra.specs.WellFormed.{Closed}
-use Rattle.algebra.proofs.Domain.{Domain}
-use Rattle.algebra.proofs.Typing.{TypedTables, closed-typed}
+use Rattle.algebra.proofs.Domain.{Domain, TypedTables}
+use Rattle.algebra.proofs.Typing.{closed-typed}
 
 pub typed : {G : Schema} {t : Term} → Closed G t → (T : Environment) → TypedTables G T
     → (ρ : Environment) (m : Mapping) → meaning T t ρ m → Domain m (cols G noCols t)

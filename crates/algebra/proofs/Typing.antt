@@ -1,20 +1,16 @@
 -- The proof of `typed`, with the same for a path: from mappings with the variable's columns it gives mappings with its own.
 use mathlib.Core.Path.{_≡_, refl, ap, ap₂}
 use mathlib.Core.Option.{some}
-use mathlib.Core.Logic.{_⊎_, inl, inr}
-use Prim.Native.Nat.{ℕ, _<_}
+use mathlib.Core.Logic.{inl, inr}
+use Prim.Native.Nat.{ℕ}
 use Rattle.algebra.specs.declared.Pairing.{Pairing}
 use Rattle.algebra.specs.declared.Pairing.the-variants.{Union, Join, Except}
 use Rattle.algebra.specs.Mapping.{Mapping, Relation, nothing}
 use Rattle.algebra.specs.Term.{Term, Environment, bind, paired, meaning}
-use Rattle.algebra.specs.Columns.{Cols, noCols, with, without, both, Schema, pairCols, cols}
+use Rattle.algebra.specs.Columns.{Cols, noCols, with, without, Schema, pairCols, cols}
 use Rattle.algebra.specs.WellFormed.{Sides, Closed, c-table, c-fact, c-pair, c-filter, c-copy, c-drop, c-fix, Path, p-var, p-union, p-left, p-right, p-except, p-filter, p-copy, p-drop}
-use Rattle.algebra.proofs.Mappings.{Within, rounds-in, bind-out}
-use Rattle.algebra.proofs.Domain.{Domain, domain-nothing, domain-combine, domain-put, domain-drop, domain-at}
-
--- each mapping of a table has exactly the table's columns
-abbrev pub TypedTables : Schema → Environment → Type 0
-TypedTables G T = (t : ℕ) → t < G .tables → (m : Mapping) → T t m → Domain m (G .columns t)
+use Rattle.algebra.proofs.Mappings.{rounds-in, bind-out}
+use Rattle.algebra.proofs.Domain.{Domain, TypedTables, domain-nothing, domain-combine, domain-put, domain-drop, domain-at}
 
 -- the columns of a closed term do not depend on those of the variable
 pub cols-closed : (G : Schema) (C C′ : Cols) {t : Term} → Closed G t → cols G C t ≡ cols G C′ t
@@ -28,7 +24,8 @@ cols-closed G C C′ (c-drop {c = c} p _) = ap (λ D. without D c) (cols-closed 
 cols-closed G C C′ (c-fix p q _) = cols-closed G C C′ p
 
 -- what two typed relations give, paired
-pub domain-paired : (o : Pairing) (D E : Cols) {R S : Relation} → Sides o D E → ((x : Mapping) → R x → Domain x D) → ((y : Mapping) → S y → Domain y E)
+pub domain-paired : (o : Pairing) (D E : Cols) {R S : Relation} → Sides o D E
+    → ((x : Mapping) → R x → Domain x D) → ((y : Mapping) → S y → Domain y E)
     → (m : Mapping) → paired o R S m → Domain m (pairCols o D E)
 unfolding paired pairCols
 domain-paired Union D E e f g m (inl r) = f m r

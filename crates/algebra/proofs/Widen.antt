@@ -1,20 +1,16 @@
 -- A path stays one where its variable has more columns, or one column less, if the rider of those columns can go along.
 use mathlib.Core.Path.{_≡_, refl, ap, ap₂, sym, _∙_}
-use mathlib.Core.Bool.{true, false}
+use mathlib.Core.Bool.{false}
 use Prim.Native.Nat.{ℕ}
-use Rattle.algebra.specs.declared.Pairing.the-variants.{Union, Join, Except}
 use Rattle.algebra.specs.Term.{Term}
 use Rattle.algebra.specs.Columns.{Cols, noCols, with, without, both, Schema, pairCols, cols, named}
 use Rattle.algebra.specs.WellFormed.{Path, p-var, p-union, p-left, p-right, p-except, p-filter, p-copy, p-drop}
-use Rattle.algebra.proofs.ColumnSets.{both-swap, both-assoc, both-comm, in-left, in-neither, with-both, without-both, without-other, with-without, without-without}
+use Rattle.algebra.proofs.ColumnSets.{same-at, both-swap, both-assoc, both-comm, in-left, in-neither, with-both, without-both, without-other, with-without, without-without}
 use Rattle.algebra.proofs.Each.{each-map, each-zip}
 use Rattle.algebra.proofs.Typing.{cols-closed}
 use Rattle.algebra.proofs.Rider.{Role, outside}
 use Rattle.algebra.proofs.Ride.{Rides}
 use Rattle.algebra.proofs.Roles.{lone, lone-clear, lone-outside, lone-lacks}
-
-at : {D E : Cols} → D ≡ E → (c : ℕ) → D c ≡ E c
-at e c = ap (λ (D : Cols). D c) e
 
 -- the columns O, which hold none that is outside, are added
 pub widen : {G : Schema} {v : ℕ} {C : Cols} {t : Term} (k : ℕ → Role) (O : Cols) → ((c : ℕ) → k c ≡ outside → O c ≡ false)
@@ -34,15 +30,15 @@ widen {G} {C = C} k O h (p-right p q) (d, d′) =
 widen k O h (p-except p q) (d, d′) = let (p′, i) = widen k O h p d in (p-except p′ q, i)
 widen k O h (p-filter {f = f} p e) (d, d′) =
     let (p′, i) = widen k O h p d in
-    (p-filter p′ (each-map (named f) (λ c g. at i c ∙ in-left _ O c g) e), i)
+    (p-filter p′ (each-map (named f) (λ c g. same-at i c ∙ in-left _ O c g) e), i)
 widen k O h (p-copy {c = c} {d = b} p e g) (d, a, d′) =
     let (p′, i) = widen k O h p d in (
-      p-copy p′ (at i c ∙ in-left _ O c e) (at i b ∙ in-neither _ O b g (h b d′)),
+      p-copy p′ (same-at i c ∙ in-left _ O c e) (same-at i b ∙ in-neither _ O b g (h b d′)),
       ap (λ (D : Cols). with D b) i ∙ with-both _ O b,
     )
 widen k O h (p-drop {c = c} p e) (d, d′) =
     let (p′, i) = widen k O h p d in
-    (p-drop p′ (at i c ∙ in-left _ O c e), ap (λ (D : Cols). without D c) i ∙ without-both _ O c (h c d′))
+    (p-drop p′ (same-at i c ∙ in-left _ O c e), ap (λ (D : Cols). without D c) i ∙ without-both _ O c (h c d′))
 
 without-left : (D E : Cols) (d : ℕ) → E d ≡ false → both (without D d) E ≡ without (both D E) d
 without-left D E d e = sym (without-both D E d e)
@@ -61,19 +57,19 @@ lessen d (p-union p q e) (h, h′) =
     (p-union p′ q′ (i ∙ ap (λ (D : Cols). without D d) e ∙ sym j), i)
 lessen {G} {C = C} d (p-left p q) (h, h′) =
     let (p′, i) = lessen d p h in
-    (p-left p′ q, ap₂ both i (cols-closed G (without C d) C q) ∙ without-left _ _ d (at (cols-closed G C noCols q) d ∙ lone-lacks d _ h′))
+    (p-left p′ q, ap₂ both i (cols-closed G (without C d) C q) ∙ without-left _ _ d (same-at (cols-closed G C noCols q) d ∙ lone-lacks d _ h′))
 lessen {G} {C = C} d (p-right p q) (h, h′) =
     let (q′, j) = lessen d q h′ in
-    (p-right p q′, ap₂ both (cols-closed G (without C d) C p) j ∙ without-right _ _ d (at (cols-closed G C noCols p) d ∙ lone-lacks d _ h))
+    (p-right p q′, ap₂ both (cols-closed G (without C d) C p) j ∙ without-right _ _ d (same-at (cols-closed G C noCols p) d ∙ lone-lacks d _ h))
 lessen d (p-except p q) (h, h′) = let (p′, i) = lessen d p h in (p-except p′ q, i)
 lessen d (p-filter {f = f} p e) (h, h′) =
     let (p′, i) = lessen d p h in
-    (p-filter p′ (each-zip (named f) (λ c g n. at i c ∙ without-other _ d c (lone-clear d c n) ∙ g) e h′), i)
+    (p-filter p′ (each-zip (named f) (λ c g n. same-at i c ∙ without-other _ d c (lone-clear d c n) ∙ g) e h′), i)
 lessen d (p-copy {c = c} {d = b} p e g) (h, n, h′) =
     let (p′, i) = lessen d p h in (
-      p-copy p′ (at i c ∙ without-other _ d c (lone-clear d c n) ∙ e) (at i b ∙ without-other _ d b (lone-outside d b h′) ∙ g),
+      p-copy p′ (same-at i c ∙ without-other _ d c (lone-clear d c n) ∙ e) (same-at i b ∙ without-other _ d b (lone-outside d b h′) ∙ g),
       ap (λ (D : Cols). with D b) i ∙ with-without _ b d (lone-outside d b h′),
     )
 lessen d (p-drop {c = c} p e) (h, h′) =
     let (p′, i) = lessen d p h in
-    (p-drop p′ (at i c ∙ without-other _ d c (lone-outside d c h′) ∙ e), ap (λ (D : Cols). without D c) i ∙ without-without _ c d)
+    (p-drop p′ (same-at i c ∙ without-other _ d c (lone-outside d c h′) ∙ e), ap (λ (D : Cols). without D c) i ∙ without-without _ c d)

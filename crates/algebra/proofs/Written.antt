@@ -3,23 +3,22 @@
 use mathlib.Core.Path.{_≡_, refl, ap, sym, _∙_, subst}
 use mathlib.Core.Bool.{true}
 use mathlib.Core.Logic.{_↔_}
-use Prim.Native.Nat.{ℕ, _+_, _≤_}
+use Prim.Native.Nat.{ℕ, _≤_}
 use native.Mathlib.Omega.{arith}
 use Rattle.laws.proofs.Tests.{true-false}
 use Rattle.laws.proofs.Lists.{count, count-append}
-use Rattle.algebra.specs.declared.Pairing.the-variants.{Union, Join, Except}
 use Rattle.algebra.specs.Mapping.{Mapping}
 use Rattle.algebra.specs.Term.{Term, fix, Environment, meaning}
 use Rattle.algebra.specs.Columns.{Cols, noCols, without, both, Schema, pairCols, cols, named, size, fixNumbers}
 use Rattle.algebra.specs.WellFormed.{Closed, c-pair, c-filter, c-drop, c-fix, Path, p-left, p-right, p-except, p-filter, p-drop}
-use Rattle.algebra.specs.Rules.{Match, filter-fix, fix-join, join-fix, fix-except, drop-fix, fix-fix, rename, closedEnough, written}
+use Rattle.algebra.specs.Rules.{Match, filter-fix, fix-join, join-fix, fix-except, drop-fix, fix-fix, closedEnough, written}
+use Rattle.algebra.proofs.Domain.{TypedTables}
 use Rattle.algebra.proofs.ColumnSets.{both-comm}
 use Rattle.algebra.proofs.Each.{each-zip}
-use Rattle.algebra.proofs.Typing.{TypedTables}
 use Rattle.algebra.proofs.Open.{closed-closed, path-open}
 use Rattle.algebra.proofs.Roles.{kept-rides, lone-rides, joined-outside, joined-rides}
 use Rattle.algebra.proofs.Widen.{widen, lessen}
-use Rattle.algebra.proofs.FixRows.{ClosedFix, fix-parts}
+use Rattle.algebra.proofs.FixRows.{fix-parts}
 use Rattle.algebra.proofs.SelectFix.{filter-over-fix, except-over-fix}
 use Rattle.algebra.proofs.JoinFix.{fix-join-seed, join-fix-seed}
 use Rattle.algebra.proofs.DropFix.{drop-over-fix}
@@ -86,7 +85,7 @@ module _ {G : Schema} where
       let F = fix-parts p in
       let (t, j) = lessen d (F .step) (lone-rides (F .step) d h) in
       c-fix (c-drop (F .seed) i) t (j ∙ ap (λ (D : Cols). without D d) (F .columns))
-  written-closed (fix-fix x y) (c-pair p q _) (h, k, h′, k′) =
+  written-closed (fix-fix x y) (c-pair p q _) ((h, k), (h′, k′)) =
       let F = fix-parts p in
       let F′ = fix-parts q in
       let (t, i) = merged-step F F′ (joined-rides (F .step) _ h k) (joined-rides (F′ .step) _ h′ k′) in
@@ -105,7 +104,7 @@ module _ {G : Schema} where
       let F = fix-parts p in except-over-fix T tables ρ F q (λ c i j. kept-rides (F .step) c i (h c i j))
   written-keeps (drop-fix d x) (c-drop p _) h T tables ρ =
       let F = fix-parts p in drop-over-fix T tables ρ (x .seed) (F .step) d (lone-rides (F .step) d h)
-  written-keeps (fix-fix x y) (c-pair p q _) (h, k, h′, k′) T tables ρ =
+  written-keeps (fix-fix x y) (c-pair p q _) ((h, k), (h′, k′)) T tables ρ =
       let F = fix-parts p in
       let F′ = fix-parts q in
       join-fixes F F′ (joined-rides (F .step) _ h k) (joined-rides (F′ .step) _ h′ k′) T tables ρ

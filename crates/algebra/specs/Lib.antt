@@ -3,3 +3,4 @@ pub mod Term
 pub mod Columns
 pub mod WellFormed
 pub mod Rules
+pub mod Conditions

@@ -1,14 +1,14 @@
 -- Lists and ranges of numbers: what a test over all of them says of each.
-use mathlib.Core.Path.{_≡_, refl, ap, sym, _∙_, subst}
-use mathlib.Core.Bool.{Bool, true, false, not, _&&_, _||_}
-use mathlib.Core.Logic.{_⊎_, inl, inr, _≢_}
+use mathlib.Core.Path.{_≡_, refl, ap, _∙_}
+use mathlib.Core.Bool.{Bool, true, false, _||_}
+use mathlib.Core.Logic.{inl, inr}
 use mathlib.Core.List.{List, [], _∷_, _++_}
-use Prim.Native.Nat.{ℕ, zero, suc, _+_, _≤_, _<_}
+use Prim.Native.Nat.{ℕ, zero, suc, _+_, _<_}
 use native.Mathlib.Omega.{arith}
 use native.Mathlib.Nat.{not-suc-le-zero}
 use lib.Dec.{eqb}
 use Rattle.laws.specs.Lists.{if_then_else_, null, any, member, sift, all}
-use Rattle.laws.proofs.Tests.{true-false, eqb-self, same?, and-true-left, and-true-right, or-true-left, or-true-right}
+use Rattle.laws.proofs.Tests.{true-false, eqb-self, same?, and-true, and-true-left, and-true-right, or-true-left, or-true-right}
 
 -- what holds below n holds of each number below n
 pub all-below : (p : ℕ → Bool) (n : ℕ) → all p n ≡ true → (c : ℕ) → c < n → p c ≡ true
@@ -18,6 +18,11 @@ all-below p (suc n) e c h = elim (same? c n) [
   | inl s ↦ ap p (s .0) ∙ and-true-right (all p n) (p n) e
   | inr s ↦ all-below p n (and-true-left (all p n) (p n) e) c (let d = s .0 in omega arith)
 ]
+
+pub all-true : (p : ℕ → Bool) (n : ℕ) → ((c : ℕ) → c < n → p c ≡ true) → all p n ≡ true
+unfolding all
+all-true p zero h = refl
+all-true p (suc n) h = and-true (all p n) (p n) (all-true p n (λ c i. h c (omega arith))) (h n (omega arith))
 
 pub null-append : {A : Type 0} (l m : List A) → null l ≡ false → null (l ++ m) ≡ false
 null-append [] m e = true-false e

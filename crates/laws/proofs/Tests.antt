@@ -1,5 +1,5 @@
 -- Tests: what a passed or failed one says of its parts.
-use mathlib.Core.Path.{_≡_, refl, ap, sym, _∙_, subst}
+use mathlib.Core.Path.{_≡_, refl, sym, subst}
 use mathlib.Core.Bool.{Bool, true, false, not, _&&_, _||_}
 use mathlib.Core.Logic.{_⊎_, inl, inr, _≢_}
 use Prim.Native.Nat.{ℕ}
@@ -51,10 +51,20 @@ pub and-true-right : (a b : Bool) → a && b ≡ true → b ≡ true
 and-true-right true b e = e
 and-true-right false b e = true-false (sym e)
 
+pub and-true : (a b : Bool) → a ≡ true → b ≡ true → a && b ≡ true
+and-true a b e f = rw (e, f)
+
 -- a test asked only where another passes
 pub asked : (a b : Bool) → not a || b ≡ true → a ≡ true → b ≡ true
 asked true b e f = e
 asked false b e f = true-false (sym f)
+
+pub unasked : (a b : Bool) → (a ≡ true → b ≡ true) → not a || b ≡ true
+unasked true b f = f refl
+unasked false b f = refl
+
+pub not-true : (a : Bool) → a ≡ false → not a ≡ true
+not-true a e = rw e
 
 pub not-false : (a : Bool) → not a ≡ true → a ≡ false
 not-false true e = sym e

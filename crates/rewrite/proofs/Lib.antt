@@ -1,0 +1,6 @@
+pub mod RenamedLines
+pub mod RuleLines
+pub mod Around
+pub mod RuleExact
+pub mod OnForm
+pub mod RewriteExact
