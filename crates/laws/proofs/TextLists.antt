@@ -1,5 +1,5 @@
 -- Lists of any element: a fact of each member, and tests over all members.
-use mathlib.Core.Path.{_≡_, refl, ap, sym, _∙_}
+use mathlib.Core.Path.{_≡_, refl}
 use mathlib.Core.Bool.{Bool, true, false, _&&_}
 use mathlib.Core.Option.{Option, some, none}
 use mathlib.Core.List.{List, [], _∷_, _++_}
@@ -7,7 +7,7 @@ use Prim.Native.Nat.{ℕ, zero, suc, _<_}
 use native.Mathlib.Nat.{le-of-suc-le-suc, not-suc-le-zero}
 use lib.ListN.{length, getD}
 use Rattle.laws.specs.Lists.{if_then_else_, every}
-use Rattle.laws.proofs.Tests.{and-true-left, and-true-right}
+use Rattle.laws.proofs.Tests.{and-true-left, and-true-right, and-true}
 use Rattle.laws.proofs.Options.{some-inj, none-some}
 
 -- a fact of each member
@@ -19,9 +19,6 @@ pub each-map : {A : Type 0} {P Q : A → Type 0} (l : List A) → ((a : A) → P
 each-map [] f h = tt
 each-map (a ∷ l) f (h, k) = (f a h, each-map l f k)
 
-pub and-true : {a b : Bool} → a ≡ true → b ≡ true → a && b ≡ true
-and-true e f = rw (e, f)
-
 -- a test that every member passes, and what it says of each
 pub every-each : {A : Type 0} (p : A → Bool) (l : List A) → every p l ≡ true → Each (λ a. p a ≡ true) l
 unfolding every
@@ -31,7 +28,7 @@ every-each p (a ∷ l) e = (and-true-left (p a) (every p l) e, every-each p l (a
 pub each-every : {A : Type 0} (p : A → Bool) (l : List A) → Each (λ a. p a ≡ true) l → every p l ≡ true
 unfolding every
 each-every p [] h = refl
-each-every p (a ∷ l) (h, k) = and-true h (each-every p l k)
+each-every p (a ∷ l) (h, k) = and-true _ _ h (each-every p l k)
 
 pub each-append : {A : Type 0} (P : A → Type 0) (l m : List A) → Each P l → Each P m → Each P (l ++ m)
 each-append P [] m h k = k

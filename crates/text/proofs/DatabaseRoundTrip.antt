@@ -11,10 +11,10 @@ use Rattle.laws.proofs.TextLists.{Each}
 use Rattle.database.specs.declared.Refusal.the-variants.{DatabaseForm}
 use Rattle.database.specs.Stored.{tableLimit}
 use Rattle.database.specs.Refusals.{Reply, accepted}
+use Rattle.database.proofs.Replies.{accepted-same}
 use Rattle.text.specs.Numbers.{bytes}
 use Rattle.text.specs.Texts.{Table, readTables, databaseText}
 use Rattle.text.proofs.Forms.{plain}
-use Rattle.text.proofs.ReplyLaws.{accepted-inj}
 use Rattle.text.proofs.Counted.{counted-reads, counted-printed}
 use Rattle.text.proofs.Tables.{GoodTable, table-exact}
 
@@ -32,4 +32,4 @@ pub read-database-printed : (w : ℕ) (text : List ℕ) (ts : List Table) → re
 unfolding readTables databaseText
 read-database-printed w text ts e =
     let (us, same, few, good, last) = counted-printed DatabaseForm "tables=" tableLimit tables-plain (table-exact w) (λ _ ts. accepted ts) text ts e in
-    subst (λ ts. (text ≡ databaseText ts) × (length ts ≤ tableLimit) × Each (GoodTable w) ts) (accepted-inj last) (same, few, good)
+    subst (λ ts. (text ≡ databaseText ts) × (length ts ≤ tableLimit) × Each (GoodTable w) ts) (accepted-same last) (same, few, good)

@@ -10,11 +10,12 @@ use Rattle.laws.proofs.Tests.{true-false}
 use Rattle.laws.proofs.TextLists.{Each}
 use Rattle.database.specs.declared.Refusal.{Refusal}
 use Rattle.database.specs.Refusals.{Reply, refused, accepted, _>>=_}
+use Rattle.database.proofs.Replies.{accepted-refused, accepted-same}
 use Rattle.text.specs.Numbers.{newline}
 use Rattle.text.specs.Lines.{Rest, firstLine, due, many}
 use Rattle.text.specs.Texts.{lineText}
 use Rattle.text.proofs.Commas.{Without}
-use Rattle.text.proofs.ReplyLaws.{refused-accepted, accepted-inj, bind-accepted}
+use Rattle.text.proofs.ReplyLaws.{bind-accepted}
 use Rattle.text.proofs.FirstLine.{first-line, line-first}
 
 abbrev pub from : ℕ → List ℕ → Rest
@@ -40,8 +41,8 @@ module _ {A : Type 0} where
       by-form : (l rest : List ℕ) (o : Option A) → form l ≡ o
           → _≡_ {A = Reply (A × Rest)} (elim o [ none ↦ refused (bad (s .line)) | some a ↦ accepted (a, from (s .line + 1) rest) ]) (accepted (a, t))
           → (form l ≡ some a) × (rest ≡ t .bytes)
-      by-form l rest none q e = refused-accepted e
-      by-form l rest (some b) q e = let p = accepted-inj e in (q ∙ ap (λ r. some (r .0)) p, ap (λ r. r .1 .bytes) p)
+      by-form l rest none q e = accepted-refused (sym e)
+      by-form l rest (some b) q e = let p = accepted-same e in (q ∙ ap (λ r. some (r .0)) p, ap (λ r. r .1 .bytes) p)
 
       by-line : (o : Option (List ℕ × List ℕ)) → firstLine (s .bytes) ≡ o
           → _≡_ {A = Reply (A × Rest)} (elim o [
@@ -49,7 +50,7 @@ module _ {A : Type 0} where
             | some p ↦ elim (form (p .0)) [ none ↦ refused (bad (s .line)) | some a ↦ accepted (a, from (s .line + 1) (p .1)) ]
           ]) (accepted (a, t))
           → (l : List ℕ) × (s .bytes ≡ lineText l ++ t .bytes) × (form l ≡ some a)
-      by-line none q e = refused-accepted e
+      by-line none q e = accepted-refused (sym e)
       by-line (some p) q e =
           let (f, r) = by-form (p .0) (p .1) (form (p .0)) refl e in
           (p .0, line-first (s .bytes) p q .0 ∙ ap (λ rest. lineText (p .0) ++ rest) r, f)
@@ -107,14 +108,14 @@ module _ {S A : Type 0} {part : S → Rest → Reply (A × Rest)} {next : A → 
       → (s .bytes ≡ flatMap text l ++ t .bytes) × (Chain next Good c l × (length l ≡ n))
   unfolding flatMap
   again-printed zero c s t l e =
-      let p = accepted-inj (sym (again .end c s) ∙ e) in
+      let p = accepted-same (sym (again .end c s) ∙ e) in
       subst (λ (q : List A × Rest). (s .bytes ≡ flatMap text (q .0) ++ q .1 .bytes) × (Chain next Good c (q .0) × (length (q .0) ≡ 0))) p (refl, (tt, refl))
   again-printed (suc n) c s t l e =
       bind-accepted (part c s) _ (sym (again .more n c s) ∙ e) λ (a, s₁) first others.
       bind-accepted (loop n (next a) s₁) _ others λ (m, s₂) rest last.
       let (b₁, good) = x c .printed s s₁ a first in
       let (b₂, (goods, count)) = again-printed n (next a) s₁ s₂ m rest in
-      subst (λ (q : List A × Rest). (s .bytes ≡ flatMap text (q .0) ++ q .1 .bytes) × (Chain next Good c (q .0) × (length (q .0) ≡ suc n))) (accepted-inj last)
+      subst (λ (q : List A × Rest). (s .bytes ≡ flatMap text (q .0) ++ q .1 .bytes) × (Chain next Good c (q .0) × (length (q .0) ≡ suc n))) (accepted-same last)
         (b₁ ∙ ap (λ r. text a ++ r) b₂ ∙ sym (append-assoc (text a) (flatMap text m) (s₂ .bytes)), ((good, goods), ap suc count))
 
   pub again-exact : (n : ℕ) (c : S) → Exact (loop n c) (flatMap text) (λ l. Chain next Good c l × (length l ≡ n))

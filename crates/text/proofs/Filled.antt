@@ -14,6 +14,7 @@ use Rattle.laws.proofs.Tests.{true-false, same?, or-false-left, or-false-right,
 use Rattle.laws.proofs.TextLists.{both-true}
 use Rattle.relation.specs.Rows.{Row, slot}
 use Rattle.relation.proofs.Shows.{Shaped}
+use Rattle.relation.proofs.Shapes.{zeros-shaped}
 use Rattle.text.specs.Lines.{ascending, filled}
 
 pub filled-length : (r : Row) (cs vs : List ℕ) → length (filled r cs vs) ≡ length r
@@ -84,11 +85,7 @@ abbrev zeros : ℕ → Row
 zeros w = replicate w 0
 
 pub zeros-zero : (w c : ℕ) → slot (zeros w) c ≡ 0
-zeros-zero w c = by-test (ltb c w) refl
-  where
-    by-test : (t : Bool) → ltb c w ≡ t → slot (zeros w) c ≡ 0
-    by-test true e = getD-replicate w c 0 0 (ltb-true c w e)
-    by-test false e = List·getD-eq-default (zeros w) 0 (rw (length-replicate {A = ℕ} w 0) (ltb-false c w e))
+zeros-zero w c = zeros-shaped w .absent c refl
 
 -- a row is filled from its own values
 pub filled-own : (w : ℕ) (cs : List ℕ) (r : Row) → Shaped w (λ c. member c cs) r → filled (zeros w) cs (map (slot r) cs) ≡ r

@@ -10,11 +10,11 @@ use Rattle.database.specs.declared.Refusal.{Refusal}
 use Rattle.database.specs.declared.Refusal.the-variants.{QueryForm, NodeCount, DatabaseForm}
 use Rattle.database.specs.Stored.{tableLimit, rowsLimit}
 use Rattle.database.specs.Refusals.{Reply, refused, accepted, require, number, _>>=_}
+use Rattle.database.proofs.Replies.{accepted-refused, refused-same}
 use Rattle.query.specs.declared.Node.{Node}
 use Rattle.text.specs.Numbers.{maxNumber}
 use Rattle.text.specs.Lines.{due, countLine, nodeLine, colsLine, rowLine}
 use Rattle.text.specs.Texts.{Table, readRows, readTable, readNodes, readTables}
-use Rattle.text.proofs.ReplyLaws.{refused-accepted, refused-inj}
 use Rattle.text.proofs.Lines.{countTested}
 use Rattle.text.proofs.Tables.{rows-again}
 use Rattle.text.proofs.FirstLines.{firstLines}
@@ -25,8 +25,8 @@ count-no-line : (limit n : ℕ) (ns : List Node) (k : ℕ) → countTested limit
 count-no-line limit n ns k e = by-test (leb 1 n && leb n limit) e
   where
     by-test : (t : Bool) → (require t (NodeCount 2) >>= λ _. accepted ns) ≡ refused (QueryForm k) → ⊥
-    by-test true e = refused-accepted (sym e)
-    by-test false e = let p = ap number (refused-inj e) in omega arith
+    by-test true e = accepted-refused e
+    by-test false e = let p = ap number (refused-same e) in omega arith
 
 pub first-bad-query-line : (w limit limit′ : ℕ) (text : List ℕ) (k : ℕ) → readNodes w limit text ≡ refused (QueryForm k)
     → FirstBad QueryForm (readNodes w limit′) text k
@@ -54,9 +54,9 @@ pub first-bad-database-line : (w : ℕ) (text : List ℕ) (k : ℕ) → readTabl
 unfolding readTables
 first-bad-database-line w =
     first-bad-counted DatabaseForm (λ n. refl) "tables=" tableLimit (readTable w) (table-linewise w)
-      (λ _ ts. accepted ts) (λ _ ts. accepted ts) (λ n ts k e. refused-accepted (sym e)) (λ n ts k e. refused-accepted (sym e))
+      (λ _ ts. accepted ts) (λ _ ts. accepted ts) (λ n ts k e. accepted-refused e) (λ n ts k e. accepted-refused e)
 
 -- an accepted text with the same lines before the first bad one has another line there, or ends where the bad text goes on
 pub accepted-differs : {B : Type 0} (bad : ℕ → Refusal) (read : List ℕ → Reply B) (text : List ℕ) (k : ℕ) → FirstBad bad read text k
     → (text′ : List ℕ) (b : B) → read text′ ≡ accepted b → firstLines k text ≡ firstLines k text′ → ⊥
-accepted-differs bad read text k x text′ b e f = refused-accepted (sym (x .there text′ f) ∙ e)
+accepted-differs bad read text k x text′ b e f = accepted-refused (sym e ∙ x .there text′ f)

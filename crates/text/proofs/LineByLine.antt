@@ -9,9 +9,10 @@ use Rattle.laws.specs.Lists.{null}
 use Rattle.laws.proofs.Lists.{count}
 use Rattle.database.specs.declared.Refusal.{Refusal}
 use Rattle.database.specs.Refusals.{Reply, refused, accepted, require, placeOf, _>>=_}
+use Rattle.database.proofs.Replies.{accepted-refused, refused-same}
 use Rattle.text.specs.Numbers.{newline}
 use Rattle.text.specs.Lines.{Rest, firstLine, due, ended}
-use Rattle.text.proofs.ReplyLaws.{refused-accepted, refused-inj, bind-assoc}
+use Rattle.text.proofs.ReplyLaws.{bind-assoc}
 use Rattle.text.proofs.Exact.{from, Again}
 use Rattle.text.proofs.FirstLines.{firstLines, SameFirst, no-line, same-line, same-first, first-null, lines-count}
 
@@ -77,7 +78,7 @@ module _ (bad : ℕ → Refusal) {A : Type 0} (form : List ℕ → Option A) (s 
 
 module _ (bad : ℕ → Refusal) (B : Type 0) (named : (n : ℕ) → placeOf (bad n) ≡ n) where
   pub one-place : (m n : ℕ) → _≡_ {A = Reply B} (refused (bad m)) (refused (bad n)) → m ≡ n
-  one-place m n e = sym (named m) ∙ ap placeOf (refused-inj e) ∙ named n
+  one-place m n e = sym (named m) ∙ ap placeOf (refused-same e) ∙ named n
 
   module _ {A : Type 0} (form : List ℕ → Option A) (next next′ : A → Rest → Reply B) (x : (a : A) → Alike bad B (next a) (next′ a)) where
     due-reached : (s : Rest) (k : ℕ) → followed bad B (due bad form) next s ≡ refused (bad k) → (s .line ≤ k) × (k ≤ s .line + count newline (s .bytes))

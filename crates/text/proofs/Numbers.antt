@@ -8,9 +8,9 @@ use native.Mathlib.Omega.{arith}
 use lib.Dec.{leb, eqb}
 use borrow.Author.Tests.{leb-true, le-leb, ne-eqb}
 use Rattle.laws.specs.Lists.{if_then_else_, every, null}
-use Rattle.laws.proofs.Tests.{true-false, not-false}
+use Rattle.laws.proofs.Tests.{true-false, not-false, and-true}
 use Rattle.laws.proofs.Options.{some-inj, none-some}
-use Rattle.laws.proofs.TextLists.{Each, each-map, each-append, every-each, and-true, both-true, kept}
+use Rattle.laws.proofs.TextLists.{Each, each-map, each-append, every-each, both-true, kept}
 use Rattle.text.specs.Numbers.{comma, maxNumber, isDigit, valueFrom, isZero, number, digits, parts, readAll, numbers, commaDigits}
 use Rattle.text.proofs.Commas.{Without, joined, one-part, more-parts, parts-null, joined-parts}
 use Rattle.text.proofs.Digits.{digits-null, digits-digits, digits-value, no-leading-zero, digits-of-value}
@@ -25,7 +25,7 @@ number-digits n h =
     let small = ap (λ v. leb v maxNumber) value ∙ le-leb n maxNumber h in
     let filled = ap not (digits-null (suc n) n [] (omega arith)) in
     let on-form : onNumberForm (digits n) ≡ true =
-    and-true (and-true (and-true filled (digits-digits n)) (ap not (no-leading-zero n))) small in
+    and-true _ _ (and-true _ _ (and-true _ _ filled (digits-digits n)) (ap not (no-leading-zero n))) small in
     rw on-form (ap some value)
 
 -- what is read as a number is printed for that number

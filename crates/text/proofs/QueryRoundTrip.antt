@@ -7,15 +7,17 @@ use lib.Dec.{leb}
 use lib.ListN.{length}
 use borrow.Author.Tests.{leb-true, le-leb}
 use Rattle.laws.specs.Lists.{every}
-use Rattle.laws.proofs.TextLists.{Each, both-true, and-true}
+use Rattle.laws.proofs.Tests.{and-true}
+use Rattle.laws.proofs.TextLists.{Each, both-true}
 use Rattle.database.specs.declared.Refusal.the-variants.{QueryForm, NodeCount}
 use Rattle.database.specs.Refusals.{Reply, accepted, require, _>>=_}
+use Rattle.database.proofs.Replies.{accepted-same}
 use Rattle.query.specs.declared.Node.{Node}
 use Rattle.text.specs.Numbers.{bytes, maxNumber}
 use Rattle.text.specs.Lines.{nodeLine}
 use Rattle.text.specs.Texts.{readNodes, queryText}
 use Rattle.text.proofs.Forms.{plain}
-use Rattle.text.proofs.ReplyLaws.{accepted-inj, bind-accepted, required}
+use Rattle.text.proofs.ReplyLaws.{bind-accepted, required}
 use Rattle.text.proofs.Exact.{due-exact}
 use Rattle.text.proofs.Counted.{counted-reads, counted-printed}
 use Rattle.text.proofs.Lines.{GoodNode, node-exact, countTested}
@@ -38,5 +40,5 @@ read-printed w limit text ns e =
     let (ms, same, _, good, last) = counted-printed QueryForm "nodes=" maxNumber nodes-plain (due-exact QueryForm (node-exact w)) (countTested limit) text ns e in
     bind-accepted (require (leb 1 (length ms) && leb (length ms) limit) (NodeCount 2)) _ last λ _ range read.
     let (low, high) = both-true (leb 1 (length ms)) (leb (length ms) limit) (required _ _ tt range) in
-    subst (λ ns. (text ≡ queryText ns) × (1 ≤ length ns) × (length ns ≤ limit) × Each (GoodNode w) ns) (accepted-inj read)
+    subst (λ ns. (text ≡ queryText ns) × (1 ≤ length ns) × (length ns ≤ limit) × Each (GoodNode w) ns) (accepted-same read)
       (same, leb-true 1 (length ms) low, leb-true (length ms) limit high, good)

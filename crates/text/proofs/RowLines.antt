@@ -9,7 +9,8 @@ use lib.ListN.{length, replicate, length-map, length-replicate}
 use borrow.Author.Tests.{eq-eqb, eqb-true}
 use Rattle.laws.specs.Lists.{if_then_else_, every, member, null}
 use Rattle.laws.proofs.Options.{none-some}
-use Rattle.laws.proofs.TextLists.{Each, both-true, and-true, kept}
+use Rattle.laws.proofs.Tests.{and-true}
+use Rattle.laws.proofs.TextLists.{Each, both-true, kept}
 use Rattle.relation.specs.Rows.{Row, Rows, slot, ordered, isLess, ascend}
 use Rattle.relation.proofs.Shows.{Shaped}
 use Rattle.text.specs.Numbers.{bytes, commaDigits}
@@ -35,7 +36,7 @@ pub cols-exact : (w : ℕ) → ExactLine (colsLine w) (λ cs. bytes "cols=" ++ c
 unfolding plain every bytes
 cols-exact w = record {
   reads = λ cs h. range-in (λ cs. ascending cs && every (λ c. ltb c w) cs) (numbersAfter "cols=" (bytes "cols=" ++ commaDigits cs)) cs
-    (numbers-after "cols=" (bytes "cols=" ++ commaDigits cs) cs (h .some-column) (h .small) refl) (and-true (h .ascends) (h .below));
+    (numbers-after "cols=" (bytes "cols=" ++ commaDigits cs) cs (h .some-column) (h .small) refl) (and-true _ _ (h .ascends) (h .below));
   unbroken = λ cs _. key-numbers-unbroken "cols=" refl cs;
   printed = λ l cs e.
     let (read, t) = in-range (λ cs. ascending cs && every (λ c. ltb c w) cs) (numbersAfter "cols=" l) cs e in

@@ -8,16 +8,18 @@ use native.Mathlib.Nat.{le-trans}
 use lib.Dec.{lit≤}
 use lib.ListN.{length}
 use Rattle.laws.specs.Lists.{every}
-use Rattle.laws.proofs.TextLists.{Each, both-true, and-true}
+use Rattle.laws.proofs.Tests.{and-true}
+use Rattle.laws.proofs.TextLists.{Each, both-true}
 use Rattle.relation.specs.Rows.{Row, Rows, slot, ordered, isLess, ascend}
 use Rattle.database.specs.declared.Refusal.the-variants.{DatabaseForm}
 use Rattle.database.specs.Stored.{rowsLimit}
 use Rattle.database.specs.Refusals.{Reply, refused, accepted, _>>=_}
+use Rattle.database.proofs.Replies.{accepted-same}
 use Rattle.text.specs.Numbers.{bytes, maxNumber, digits, commaDigits}
 use Rattle.text.specs.Lines.{Rest, due, countLine, colsLine, rowLine, follows}
 use Rattle.text.specs.Texts.{Table, readRows, readTable, rowsText, lineText}
 use Rattle.text.proofs.Forms.{plain}
-use Rattle.text.proofs.ReplyLaws.{accepted-inj, bind-accepted}
+use Rattle.text.proofs.ReplyLaws.{bind-accepted}
 use Rattle.text.proofs.Exact.{Exact, ExactLine, from, regroup, put-together, due-exact, reads-then, Again, Chain, again-exact}
 use Rattle.text.proofs.Lines.{count-exact}
 use Rattle.text.proofs.RowLines.{GoodColumns, GoodRow, cols-exact, row-exact}
@@ -65,7 +67,7 @@ module _ (w : ℕ) (cs : List ℕ) where
   rows-chain above [] h = (tt, ascend-end above)
   rows-chain above (r ∷ rows) ((h, f), hs) =
       let (good, a) = rows-chain (some r) rows hs in
-      ((h, good), ascend-next above r rows ∙ and-true f a)
+      ((h, good), ascend-next above r rows ∙ and-true _ _ f a)
 
   -- so many rows
   abbrev GoodRows : ℕ → Rows → Type 0
@@ -112,7 +114,7 @@ module _ (w : ℕ) where
       let (b₂, (few, _)) = due-exact DatabaseForm rows-count-exact .printed s₁ s₂ n count in
       let (b₃, (good, ascends, counted)) = rows-exact w cs columns n .printed s₂ s₃ rows lines in
       let same = put-together (lineText (bytes "cols=" ++ commaDigits cs)) (lineText (bytes "rows=" ++ digits n)) (flatMap (rowText cs) rows) (s₃ .bytes) b₁ b₂ b₃ in
-      subst (λ (p : Table × Rest). (s .bytes ≡ rowsText (p .0 .columns) (p .0 .rows) ++ p .1 .bytes) × GoodTable w (p .0)) (accepted-inj e₃)
+      subst (λ (p : Table × Rest). (s .bytes ≡ rowsText (p .0 .columns) (p .0 .rows) ++ p .1 .bytes) × GoodTable w (p .0)) (accepted-same e₃)
         (rw counted same, record { columns = columns; rows = good; ascends = ascends; few = rw counted few })
 
   pub table-exact : Exact (readTable w) (λ (t : Table). rowsText (t .columns) (t .rows)) (GoodTable w)
