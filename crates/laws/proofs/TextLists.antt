@@ -1,13 +1,14 @@
 -- Lists of any element: a fact of each member, and tests over all members.
-use mathlib.Core.Path.{_≡_, refl}
+use mathlib.Core.Path.{_≡_, refl, sym}
 use mathlib.Core.Bool.{Bool, true, false, _&&_}
 use mathlib.Core.Option.{Option, some, none}
+use mathlib.Core.Logic.{inl, inr}
 use mathlib.Core.List.{List, [], _∷_, _++_}
 use Prim.Native.Nat.{ℕ, zero, suc, _<_}
 use native.Mathlib.Nat.{le-of-suc-le-suc, not-suc-le-zero}
 use lib.ListN.{length, getD}
-use Rattle.laws.specs.Lists.{if_then_else_, every}
-use Rattle.laws.proofs.Tests.{and-true-left, and-true-right, and-true}
+use Rattle.laws.specs.Lists.{if_then_else_, every, any, member}
+use Rattle.laws.proofs.Tests.{true-false, same?, and-true-left, and-true-right, and-true}
 use Rattle.laws.proofs.Options.{some-inj, none-some}
 
 -- a fact of each member
@@ -33,6 +34,14 @@ each-every p (a ∷ l) (h, k) = and-true _ _ h (each-every p l k)
 pub each-append : {A : Type 0} (P : A → Type 0) (l m : List A) → Each P l → Each P m → Each P (l ++ m)
 each-append P [] m h k = k
 each-append P (a ∷ l) m (h, i) k = (h, each-append P l m i k)
+
+pub each-of-member : (P : ℕ → Type 0) (l : List ℕ) → Each P l → (n : ℕ) → member n l ≡ true → P n
+unfolding any
+each-of-member P [] h n e = true-false (sym e)
+each-of-member P (a ∷ l) (h, hs) n e = elim (same? n a) [
+  | inl (s, _) ↦ rw s h
+  | inr (_, s) ↦ each-of-member P l hs n (rw s at e)
+]
 
 -- a value that is kept where a test passes
 pub kept : {A : Type 0} {a b : A} (t : Bool) → (if t then some a else none) ≡ some b → (t ≡ true) × (a ≡ b)

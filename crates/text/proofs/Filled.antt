@@ -32,7 +32,7 @@ filled-other r (d ∷ cs) (v ∷ vs) c e =
     ∙ getD-set-other r d c v 0 (eqb-false c d (or-false-left (eqb c d) (member c cs) e))
 
 -- a number below ascending ones is none of them
-below-all : (b c : ℕ) (cs : List ℕ) → b < c → ascending (c ∷ cs) ≡ true → member b (c ∷ cs) ≡ false
+pub below-all : (b c : ℕ) (cs : List ℕ) → b < c → ascending (c ∷ cs) ≡ true → member b (c ∷ cs) ≡ false
 unfolding any ascending
 below-all b c [] h e = rw (ne-eqb b c (omega arith))
 below-all b c (d ∷ cs) h e =
@@ -40,7 +40,7 @@ below-all b c (d ∷ cs) h e =
     let k = ltb-true c d less in
     rw (ne-eqb b c (omega arith)) (below-all b d cs (omega arith) rest)
 
-ascending-other : (c : ℕ) (cs : List ℕ) → ascending (c ∷ cs) ≡ true → member c cs ≡ false
+pub ascending-other : (c : ℕ) (cs : List ℕ) → ascending (c ∷ cs) ≡ true → member c cs ≡ false
 unfolding any ascending
 ascending-other c [] e = refl
 ascending-other c (d ∷ cs) e =

@@ -17,3 +17,7 @@ pub mod FirstLines
 pub mod LineByLine
 pub mod FirstBad
 pub mod FirstBadLine
+pub mod ColumnLists
+pub mod Entries
+pub mod StoredTables
+pub mod StoredRoundTrip

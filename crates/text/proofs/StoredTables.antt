@@ -1,0 +1,123 @@
+-- The tables of a stored database that passes its test can be printed and read.
+use mathlib.Core.Path.{_≡_, refl, ap, sym, _∙_, subst, fun-ext}
+use mathlib.Core.Bool.{Bool, true, false, not, _&&_}
+use mathlib.Core.List.{List, [], _∷_, _++_, map}
+use Prim.Native.Nat.{ℕ, zero, suc, _+_, _*_, _≤_, _<_}
+use native.Mathlib.Omega.{arith}
+use lib.Dec.{leb, ltb}
+use lib.ListN.{length, getD, take, drop}
+use borrow.Author.Tests.{leb-true, lt-ltb}
+use Rattle.laws.specs.Lists.{null, member, all, every, tabulate}
+use Rattle.laws.proofs.Tests.{not-false}
+use Rattle.laws.proofs.RowLists.{length-tabulate}
+use Rattle.laws.proofs.TextLists.{Each, each-map, each-append, each-every, both-true}
+use Rattle.algebra.specs.Columns.{Cols}
+use Rattle.relation.specs.Rows.{Row, Rows, slot, In, here, there, rowsOf, absentZero, ascend}
+use Rattle.relation.proofs.Shows.{Shaped}
+use Rattle.database.specs.declared.Database.{Database}
+use Rattle.database.specs.Refusals.{accepted}
+use Rattle.database.specs.Stored.{tableLimit, rowsLimit, tableCols, rowCount, tableStart, tableRows, tableOk, checkDatabase}
+use Rattle.database.proofs.Stored.{table-below, checkDatabase-iff}
+use Rattle.database.proofs.Tested.{table-shows}
+use Rattle.text.specs.Numbers.{maxNumber}
+use Rattle.text.specs.Texts.{Table, columnList, storedTables}
+use Rattle.text.proofs.Numbers.{AllSmall}
+use Rattle.text.proofs.RowLines.{GoodColumns, GoodRow}
+use Rattle.text.proofs.Tables.{GoodTable}
+use Rattle.text.proofs.ColumnLists.{columns-null, columns-ascend, columns-member}
+use Rattle.text.proofs.Entries.{rowsOf-length}
+
+-- small entries: of a part, and of a row's slots
+small-drop : (n : ℕ) (l : List ℕ) → AllSmall l → AllSmall (drop n l)
+small-drop zero l h = h
+small-drop (suc n) [] h = tt
+small-drop (suc n) (x ∷ l) (_, h) = small-drop n l h
+
+small-take : (n : ℕ) (l : List ℕ) → AllSmall l → AllSmall (take n l)
+small-take zero l h = tt
+small-take (suc n) [] h = tt
+small-take (suc n) (x ∷ l) (h, hs) = (h, small-take n l hs)
+
+small-slot : (r : Row) (c : ℕ) → AllSmall r → slot r c ≤ maxNumber
+small-slot [] c h = omega arith
+small-slot (x ∷ r) zero (h, _) = h
+small-slot (x ∷ r) (suc c) (_, h) = small-slot r c h
+
+small-slots : (r : Row) (cs : List ℕ) → AllSmall r → AllSmall (map (slot r) cs)
+small-slots r [] h = tt
+small-slots r (c ∷ cs) h = (small-slot r c h, small-slots r cs h)
+
+small-rows : (w k : ℕ) (xs : List ℕ) → AllSmall xs → Each AllSmall (rowsOf w k xs)
+unfolding rowsOf
+small-rows w zero xs h = tt
+small-rows w (suc k) xs h = (small-take w xs h, small-rows w k (drop w xs) (small-drop w xs h))
+
+each-in : {P : Row → Type 0} (rows : Rows) → ((r : Row) → In r rows → P r) → Each P rows
+each-in [] f = tt
+each-in (r ∷ rows) f = (f r here, each-in rows (λ s h. f s (there h)))
+
+each-both : {A : Type 0} {P Q R : A → Type 0} (l : List A) → ((a : A) → P a → Q a → R a) → Each P l → Each Q l → Each R l
+each-both [] f h k = tt
+each-both (a ∷ l) f (h, hs) (k, ks) = (f a h k, each-both l f hs ks)
+
+each-tabulate : {A : Type 0} (P : A → Type 0) (f : ℕ → A) (n : ℕ) → ((t : ℕ) → t < n → P (f t)) → Each P (tabulate f n)
+unfolding tabulate
+each-tabulate P f zero h = tt
+each-tabulate P f (suc n) h = each-append P (tabulate f n) (f n ∷ []) (each-tabulate P f n (λ t k. h t (omega arith))) (h n (omega arith), tt)
+
+module _ (w : ℕ) (wide : w ≤ maxNumber) (d : Database) (store : List ℕ) where
+  -- what the test says of a table beside the shape of its rows
+  table-test : (t : ℕ) → tableOk w d store t ≡ true
+      → (all (λ c. not (tableCols w d t c)) w ≡ false) × (rowCount w d t ≤ rowsLimit) × (tableStart w d t + w * rowCount w d t ≤ length store)
+  unfolding tableOk
+  table-test t e =
+      let none = all (λ c. not (tableCols w d t c)) w in
+      let few = leb (rowCount w d t) rowsLimit in
+      let room = leb (tableStart w d t + w * rowCount w d t) (length store) in
+      let zeros = every (absentZero w (tableCols w d t)) (tableRows w d store t) in
+      let (rest, _) = both-true (not none && few && room && zeros) (ascend (tableRows w d store t)) e in
+      let (rest, _) = both-true (not none && few && room) zeros rest in
+      let (rest, fits) = both-true (not none && few) room rest in
+      let (column, count) = both-true (not none) few rest in
+      (not-false none column, leb-true (rowCount w d t) rowsLimit count, leb-true (tableStart w d t + w * rowCount w d t) (length store) fits)
+
+  stored-columns : (t : ℕ) → tableOk w d store t ≡ true → GoodColumns w (columnList w (tableCols w d t))
+  stored-columns t e =
+      let cs = columnList w (tableCols w d t) in
+      let (below, ascends) = columns-ascend w (tableCols w d t) in
+      record {
+        some-column = columns-null w (tableCols w d t) ∙ table-test t e .0;
+        ascends = ascends;
+        below = each-every (λ c. ltb c w) cs (each-map cs (λ c h. lt-ltb c w h) below);
+        small = each-map {P = λ c. c < w} {Q = λ c. c ≤ maxNumber} cs (λ c h. omega arith) below;
+      }
+
+  -- the columns of a table are the members of their list
+  stored-member : (t : ℕ) → tableCols w d t ≡ (λ c. member c (columnList w (tableCols w d t)))
+  stored-member t = fun-ext λ c. sym (columns-member w (tableCols w d t) (table-below w d t) c)
+
+  stored-rows : (t : ℕ) → tableOk w d store t ≡ true → AllSmall store → Each (GoodRow w (columnList w (tableCols w d t))) (tableRows w d store t)
+  stored-rows t e small =
+      each-both (tableRows w d store t) good
+        (each-in (tableRows w d store t) (table-shows w d store t e .shaped))
+        (small-rows w (rowCount w d t) (drop (tableStart w d t) store) (small-drop (tableStart w d t) store small))
+    where
+      good : (r : Row) → Shaped w (tableCols w d t) r → AllSmall r → GoodRow w (columnList w (tableCols w d t)) r
+      good r h s = record { shaped = subst (λ D. Shaped w D r) (stored-member t) h; small = small-slots r (columnList w (tableCols w d t)) s }
+
+  module _ (checked : checkDatabase w d store ≡ accepted tt) (small : AllSmall store) where
+    stored-ok : (t : ℕ) → t < d .tables → tableOk w d store t ≡ true
+    stored-ok = checkDatabase-iff w d store .0 checked .1
+
+    stored-table : (t : ℕ) → t < d .tables → GoodTable w (record { columns = columnList w (tableCols w d t); rows = tableRows w d store t })
+    stored-table t h =
+        let ok = stored-ok t h in
+        record {
+          columns = stored-columns t ok;
+          rows = stored-rows t ok small;
+          ascends = table-shows w d store t ok .ascends;
+          few = rw (rowsOf-length w (rowCount w d t) (drop (tableStart w d t) store)) (table-test t ok .1);
+        }
+
+    pub stored-good : (length (storedTables w d store) ≤ tableLimit) × Each (GoodTable w) (storedTables w d store)
+    stored-good = (rw (length-tabulate _ (d .tables)) (checkDatabase-iff w d store .0 checked .0), each-tabulate (GoodTable w) _ (d .tables) stored-table)
