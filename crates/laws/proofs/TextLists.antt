@@ -1,9 +1,9 @@
 -- Lists of any element: a fact of each member, and tests over all members.
-use mathlib.Core.Path.{_≡_, refl, sym}
+use mathlib.Core.Path.{_≡_, refl, ap, sym, _∙_}
 use mathlib.Core.Bool.{Bool, true, false, _&&_}
 use mathlib.Core.Option.{Option, some, none}
 use mathlib.Core.Logic.{inl, inr}
-use mathlib.Core.List.{List, [], _∷_, _++_}
+use mathlib.Core.List.{List, [], _∷_, _++_, map, flatMap, append-assoc}
 use Prim.Native.Nat.{ℕ, zero, suc, _<_}
 use native.Mathlib.Nat.{le-of-suc-le-suc, not-suc-le-zero}
 use lib.ListN.{length, getD}
@@ -70,3 +70,18 @@ some-map (a ∷ l) f (q, qs) (later p) = later (some-map l f qs p)
 pub some-out : {A C : Type 0} (l : List A) → Some (λ _. C) l → C
 some-out (a ∷ l) (first c) = c
 some-out (a ∷ l) (later s) = some-out l s
+
+pub each-at : {A : Type 0} (P : A → Type 0) (d : A) (l : List A) → Each P l → (i : ℕ) → i < length l → P (getD l i d)
+each-at P d [] h i k = absurd (not-suc-le-zero k)
+each-at P d (a ∷ l) (h, hs) zero k = h
+each-at P d (a ∷ l) (h, hs) (suc i) k = each-at P d l hs i (le-of-suc-le-suc k)
+
+pub getD-map : {A B : Type 0} (f : A → B) (d : A) (e : B) (l : List A) (i : ℕ) → i < length l → getD (map f l) i e ≡ f (getD l i d)
+getD-map f d e [] i k = absurd (not-suc-le-zero k)
+getD-map f d e (a ∷ l) zero k = refl
+getD-map f d e (a ∷ l) (suc i) k = getD-map f d e l i (le-of-suc-le-suc k)
+
+pub flatMap-append : {A B : Type 0} (f : A → List B) (l m : List A) → flatMap f (l ++ m) ≡ flatMap f l ++ flatMap f m
+unfolding flatMap
+flatMap-append f [] m = refl
+flatMap-append f (a ∷ l) m = ap (λ r. f a ++ r) (flatMap-append f l m) ∙ sym (append-assoc (f a) (flatMap f l) (flatMap f m))

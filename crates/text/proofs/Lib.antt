@@ -19,5 +19,7 @@ pub mod FirstBad
 pub mod FirstBadLine
 pub mod ColumnLists
 pub mod Entries
+pub mod StoredValues
 pub mod StoredTables
+pub mod ReadTables
 pub mod StoredRoundTrip
