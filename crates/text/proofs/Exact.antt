@@ -61,9 +61,9 @@ module _ {A : Type 0} where
   due-exact bad {form} {text} {Good} x = record {
     reads = λ a h k rest. (k + 1, rw (first-line (text a) rest (x .unbroken a h), due) (rw (x .reads a h)));
     printed = λ s t a e.
-      let (l, begins, read) = due-accepted bad form s t a e in
-      let (same, good) = x .printed l a read in
-      (begins ∙ ap (λ m. lineText m ++ t .bytes) (sym same), good);
+        let (l, begins, read) = due-accepted bad form s t a e in
+        let (same, good) = x .printed l a read in
+        (begins ∙ ap (λ m. lineText m ++ t .bytes) (sym same), good);
   }
 
 -- a part that is read, and then what follows it
@@ -116,7 +116,7 @@ module _ {S A : Type 0} {part : S → Rest → Reply (A × Rest)} {next : A → 
       let (b₁, good) = x c .printed s s₁ a first in
       let (b₂, (goods, count)) = again-printed n (next a) s₁ s₂ m rest in
       subst (λ (q : List A × Rest). (s .bytes ≡ flatMap text (q .0) ++ q .1 .bytes) × (Chain next Good c (q .0) × (length (q .0) ≡ suc n))) (accepted-same last)
-        (b₁ ∙ ap (λ r. text a ++ r) b₂ ∙ sym (append-assoc (text a) (flatMap text m) (s₂ .bytes)), ((good, goods), ap suc count))
+      (b₁ ∙ ap (λ r. text a ++ r) b₂ ∙ sym (append-assoc (text a) (flatMap text m) (s₂ .bytes)), ((good, goods), ap suc count))
 
   pub again-exact : (n : ℕ) (c : S) → Exact (loop n c) (flatMap text) (λ l. Chain next Good c l × (length l ≡ n))
   again-exact n c = record { reads = λ l (h, e). subst (λ n. (k : ℕ) (rest : List ℕ) → (m : ℕ) × (loop n c (from k (flatMap text l ++ rest)) ≡ accepted (l, from m rest))) e (again-reads l c h); printed = again-printed n c }

@@ -63,8 +63,8 @@ filled-slots w r (c ∷ cs) (v ∷ vs) h a b e =
     let (low, lows) = both-true (ltb c w) (every (λ c. ltb c w) cs) b in
     let below = ltb-true c w low in
     ap₂ (λ (x : ℕ) (l : List ℕ). x ∷ l)
-      (filled-other (set r c v) cs vs c (ascending-other c cs a) ∙ getD-set-same r c v 0 (omega arith))
-      (filled-slots w (set r c v) cs vs (length-set r c v ∙ h) (ascending-tail c cs a) lows (omega arith))
+    (filled-other (set r c v) cs vs c (ascending-other c cs a) ∙ getD-set-same r c v 0 (omega arith))
+    (filled-slots w (set r c v) cs vs (length-set r c v ∙ h) (ascending-tail c cs a) lows (omega arith))
 
 -- the columns that are filled by a function hold its values
 filled-by : (f : ℕ → ℕ) (r : Row) (cs : List ℕ) (c : ℕ) → c < length r → member c cs ≡ true → slot (filled r cs (map f cs)) c ≡ f c

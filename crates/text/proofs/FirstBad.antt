@@ -39,9 +39,9 @@ module _ {B : Type 0} (bad : ℕ → Refusal) (named : (n : ℕ) → placeOf (ba
         counted = low;
         reached = omega arith;
         before = λ text′ f j h e′.
-          let again = same-refusal read′ read y text′ text j (sym (fewer-lines j (k - 1) text text′ (omega arith) f)) e′ in
-          let same = one-place bad B named j k (sym again ∙ e) in
-          omega arith;
+            let again = same-refusal read′ read y text′ text j (sym (fewer-lines j (k - 1) text text′ (omega arith) f)) e′ in
+            let same = one-place bad B named j k (sym again ∙ e) in
+            omega arith;
         there = λ text′ f. same-refusal read read′ x text text′ k f e;
       }
 

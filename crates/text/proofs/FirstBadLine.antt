@@ -33,7 +33,7 @@ pub first-bad-query-line : (w limit limit′ : ℕ) (text : List ℕ) (k : ℕ) 
 unfolding readNodes
 first-bad-query-line w limit limit′ =
     first-bad-counted QueryForm (λ n. refl) "nodes=" maxNumber (due QueryForm (nodeLine w)) (linewise-due QueryForm (List Node) (λ n. refl) (nodeLine w))
-      (countTested limit) (countTested limit′) (count-no-line limit) (count-no-line limit′)
+    (countTested limit) (countTested limit′) (count-no-line limit) (count-no-line limit′)
 
 table-linewise : (w : ℕ) → Linewise DatabaseForm (List Table) (readTable w)
 unfolding readTable
@@ -54,7 +54,7 @@ pub first-bad-database-line : (w : ℕ) (text : List ℕ) (k : ℕ) → readTabl
 unfolding readTables
 first-bad-database-line w =
     first-bad-counted DatabaseForm (λ n. refl) "tables=" tableLimit (readTable w) (table-linewise w)
-      (λ _ ts. accepted ts) (λ _ ts. accepted ts) (λ n ts k e. accepted-refused e) (λ n ts k e. accepted-refused e)
+    (λ _ ts. accepted ts) (λ _ ts. accepted ts) (λ n ts k e. accepted-refused e) (λ n ts k e. accepted-refused e)
 
 -- an accepted text with the same lines before the first bad one has another line there, or ends where the bad text goes on
 pub accepted-differs : {B : Type 0} (bad : ℕ → Refusal) (read : List ℕ → Reply B) (text : List ℕ) (k : ℕ) → FirstBad bad read text k

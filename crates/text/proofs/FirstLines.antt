@@ -85,7 +85,7 @@ first-null k s = by-line (firstLine s) refl
 pub lines-count : (s l r : List ℕ) → firstLine s ≡ some (l, r) → count newline r + 1 ≤ count newline s
 lines-count s l r e =
     rw (line-first s (l, r) e .0)
-      (let a = count-append newline (lineText l) r in
-      let b = count-append newline l (newline ∷ []) in
-      let c = count-head newline [] in
-      omega arith)
+    (let a = count-append newline (lineText l) r in
+    let b = count-append newline l (newline ∷ []) in
+    let c = count-head newline [] in
+    omega arith)

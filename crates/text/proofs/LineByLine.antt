@@ -45,14 +45,14 @@ module _ (bad : ℕ → Refusal) (B : Type 0) where
       → Linewise part → ((a : A) → Linewise (parts a)) → Linewise (λ s. part s >>= λ p. parts (p .0) (p .1))
   linewise-then {part = part} {parts = parts} x y = record {
     alike = λ next next′ z.
-      alike-along (λ s. bind-assoc (part s) _ _) (λ s. bind-assoc (part s) _ _)
+        alike-along (λ s. bind-assoc (part s) _ _) (λ s. bind-assoc (part s) _ _)
         (x .alike (λ a. followed (parts a) next) (λ a. followed (parts a) next′) (λ a. y a .alike next next′ z));
   }
 
   pub linewise-along : {A : Type 0} {part part′ : Rest → Reply (A × Rest)} → ((s : Rest) → part′ s ≡ part s) → Linewise part → Linewise part′
   linewise-along p x = record {
     alike = λ next next′ z.
-      alike-along (λ s. ap (λ r. r >>= λ q. next (q .0) (q .1)) (p s)) (λ s. ap (λ r. r >>= λ q. next′ (q .0) (q .1)) (p s)) (x .alike next next′ z);
+        alike-along (λ s. ap (λ r. r >>= λ q. next (q .0) (q .1)) (p s)) (λ s. ap (λ r. r >>= λ q. next′ (q .0) (q .1)) (p s)) (x .alike next next′ z);
   }
 
   -- a part again and again
@@ -135,7 +135,7 @@ module _ (bad : ℕ → Refusal) (B : Type 0) (named : (n : ℕ) → placeOf (ba
     alike-ended = record {
       reached = λ s k e. let (_, p) = left-over s k e in (omega arith, omega arith);
       same = λ s t i k h n f e.
-        let (filled, p) = left-over s k e in
-        let filled′ = sym (first-null i (t .bytes)) ∙ ap null (sym f) ∙ first-null i (s .bytes) ∙ filled in
-        rw filled′ (ap (λ m. refused (bad m)) (sym n ∙ p));
+          let (filled, p) = left-over s k e in
+          let filled′ = sym (first-null i (t .bytes)) ∙ ap null (sym f) ∙ first-null i (s .bytes) ∙ filled in
+          rw filled′ (ap (λ m. refused (bad m)) (sym n ∙ p));
     }

@@ -48,14 +48,14 @@ pub count-exact : (key : String) (most : ℕ) → plain (bytes key) ≡ true →
 unfolding commaDigits
 count-exact key most p = record {
   reads = λ n (h, s).
-    range-in (λ n. leb n most) (byForm (one key (λ n. n)) (bytes key ++ digits n)) n
+      range-in (λ n. leb n most) (byForm (one key (λ n. n)) (bytes key ++ digits n)) n
       (read-printed (one key (λ n. n)) n (bytes key ++ digits n) (record { ns = n ∷ []; small = (s, tt); value = refl; line = refl })) (le-leb n most h);
   unbroken = λ n _. key-numbers-unbroken key p (n ∷ []);
   printed = λ l n e.
-    let (read, low) = in-range (λ n. leb n most) (byForm (one key (λ n. n)) l) n e in
-    let q = printed-read (one key (λ n. n)) n l read in
-    let (line, small) = single l n (q .ns) (q .small) (q .value) (q .line) in
-    (line, (leb-true n most low, small));
+      let (read, low) = in-range (λ n. leb n most) (byForm (one key (λ n. n)) l) n e in
+      let q = printed-read (one key (λ n. n)) n l read in
+      let (line, small) = single l n (q .ns) (q .small) (q .value) (q .line) in
+      (line, (leb-true n most low, small));
 }
   where
     single : (l : List ℕ) (n : ℕ) (ns : List ℕ) → AllSmall ns → valueOf (one key (λ n. n)) ns ≡ some n → bytes key ++ commaDigits ns ≡ l

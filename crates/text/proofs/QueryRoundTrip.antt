@@ -31,7 +31,7 @@ pub query-round-trip : (w limit : ℕ) (ns : List Node) → 1 ≤ length ns → 
 unfolding readNodes queryText
 query-round-trip w limit ns low high small good =
     rw (counted-reads QueryForm "nodes=" maxNumber nodes-plain (due-exact QueryForm (node-exact w)) (countTested limit) ns small small good)
-      (rw (le-leb 1 (length ns) low, le-leb (length ns) limit high))
+    (rw (le-leb 1 (length ns) low, le-leb (length ns) limit high))
 
 pub read-printed : (w limit : ℕ) (text : List ℕ) (ns : List Node) → readNodes w limit text ≡ accepted ns
     → (text ≡ queryText ns) × (1 ≤ length ns) × (length ns ≤ limit) × Each (GoodNode w) ns
@@ -41,4 +41,4 @@ read-printed w limit text ns e =
     bind-accepted (require (leb 1 (length ms) && leb (length ms) limit) (NodeCount 2)) _ last λ _ range read.
     let (low, high) = both-true (leb 1 (length ms)) (leb (length ms) limit) (required _ _ tt range) in
     subst (λ ns. (text ≡ queryText ns) × (1 ≤ length ns) × (length ns ≤ limit) × Each (GoodNode w) ns) (accepted-same read)
-      (same, leb-true 1 (length ms) low, leb-true (length ms) limit high, good)
+    (same, leb-true 1 (length ms) low, leb-true (length ms) limit high, good)

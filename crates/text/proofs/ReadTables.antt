@@ -57,11 +57,11 @@ module _ (w : ℕ) (ts : List Table) (good : Each (GoodTable w) ts) (rest : List
       let rows = sym (value-rows w ts all-fit rest t h) in
       let absent = each-every (absentZero w D) (table .rows) (each-map (table .rows) (λ r g. zeros w D r (g .shaped)) (g .rows)) in
       and-true _ _ (and-true _ _ (and-true _ _ (and-true _ _
-        (subst (λ (D : Cols). not (all (λ c. not (D c)) w) ≡ true) cols (some-column w (table .columns) (g .columns)))
-        (le-leb (rowCount w d t) rowsLimit (rw (value-count w ts all-fit t h) (g .few))))
-        (le-leb (tableStart w d t + w * rowCount w d t) (length store) (value-room w ts all-fit rest t h)))
-        (subst₂ (λ (D : Cols) (rows : Rows). every (absentZero w D) rows ≡ true) cols rows absent))
-        (subst (λ (rows : Rows). ascend rows ≡ true) rows (g .ascends))
+      (subst (λ (D : Cols). not (all (λ c. not (D c)) w) ≡ true) cols (some-column w (table .columns) (g .columns)))
+      (le-leb (rowCount w d t) rowsLimit (rw (value-count w ts all-fit t h) (g .few))))
+      (le-leb (tableStart w d t + w * rowCount w d t) (length store) (value-room w ts all-fit rest t h)))
+      (subst₂ (λ (D : Cols) (rows : Rows). every (absentZero w D) rows ≡ true) cols rows absent))
+      (subst (λ (rows : Rows). ascend rows ≡ true) rows (g .ascends))
 
   pub value-checked : length ts ≤ tableLimit → checkDatabase w (databaseValue w ts) (tableEntries ts ++ rest) ≡ accepted tt
   value-checked few = checkDatabase-iff w (databaseValue w ts) (tableEntries ts ++ rest) .1 (few, value-ok)

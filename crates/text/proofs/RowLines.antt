@@ -36,13 +36,13 @@ pub cols-exact : (w : ℕ) → ExactLine (colsLine w) (λ cs. bytes "cols=" ++ c
 unfolding plain every bytes
 cols-exact w = record {
   reads = λ cs h. range-in (λ cs. ascending cs && every (λ c. ltb c w) cs) (numbersAfter "cols=" (bytes "cols=" ++ commaDigits cs)) cs
-    (numbers-after "cols=" (bytes "cols=" ++ commaDigits cs) cs (h .some-column) (h .small) refl) (and-true _ _ (h .ascends) (h .below));
+      (numbers-after "cols=" (bytes "cols=" ++ commaDigits cs) cs (h .some-column) (h .small) refl) (and-true _ _ (h .ascends) (h .below));
   unbroken = λ cs _. key-numbers-unbroken "cols=" refl cs;
   printed = λ l cs e.
-    let (read, t) = in-range (λ cs. ascending cs && every (λ c. ltb c w) cs) (numbersAfter "cols=" l) cs e in
-    let (line, filled, small) = after-numbers "cols=" l cs read in
-    let (ascends, below) = both-true (ascending cs) (every (λ c. ltb c w) cs) t in
-    (line, record { some-column = filled; ascends = ascends; below = below; small = small });
+      let (read, t) = in-range (λ cs. ascending cs && every (λ c. ltb c w) cs) (numbersAfter "cols=" l) cs e in
+      let (line, filled, small) = after-numbers "cols=" l cs read in
+      let (ascends, below) = both-true (ascending cs) (every (λ c. ltb c w) cs) t in
+      (line, record { some-column = filled; ascends = ascends; below = below; small = small });
 }
 
 row-of : (w : ℕ) (cs : List ℕ) (o : Option (List ℕ)) (r : Row) → rowOf w cs o ≡ some r
@@ -54,14 +54,16 @@ filled-good : (w : ℕ) (cs vs : List ℕ) → GoodColumns w cs → length vs �
     → (map (slot (filled (replicate w 0) cs vs)) cs ≡ vs) × GoodRow w cs (filled (replicate w 0) cs vs)
 filled-good w cs vs g e s =
     let size = length-replicate {A = ℕ} w 0 in
-    let slots = filled-slots w (replicate w 0) cs vs size (g .ascends) (g .below) e in
-    (slots, record {
-      shaped = record {
-        slots = filled-length (replicate w 0) cs vs ∙ size;
-        absent = λ c m. filled-other (replicate w 0) cs vs c m ∙ zeros-zero w c;
-      };
-      small = rw slots s;
-    })
+    let slots = filled-slots w (replicate w 0) cs vs size (g .ascends) (g .below) e in (
+      slots,
+      record {
+        shaped = record {
+          slots = filled-length (replicate w 0) cs vs ∙ size;
+          absent = λ c m. filled-other (replicate w 0) cs vs c m ∙ zeros-zero w c;
+        };
+        small = rw slots s;
+      },
+    )
 
 null-map : (f : ℕ → ℕ) (l : List ℕ) → null l ≡ false → null (map f l) ≡ false
 null-map f [] e = e
@@ -87,10 +89,9 @@ module _ (w : ℕ) (cs : List ℕ) (g : GoodColumns w cs) (above : Option Row) w
       let (read, after) = in-range (follows above) (rowOf w cs (numbersAfter "row=" l)) r e in
       let (vs, values, as-many, made) = row-of w cs (numbersAfter "row=" l) r read in
       let (line, _, small) = after-numbers "row=" l vs values in
-      let (slots, good) = filled-good w cs vs g as-many small in
-      (
+      let (slots, good) = filled-good w cs vs g as-many small in (
         ap (λ r. bytes "row=" ++ commaDigits (map (slot r) cs)) (sym made) ∙ ap (λ vs. bytes "row=" ++ commaDigits vs) slots ∙ line,
-        (subst (GoodRow w cs) made good, after)
+        (subst (GoodRow w cs) made good, after),
       )
 
   pub row-exact : ExactLine (rowLine w cs above) (λ r. bytes "row=" ++ commaDigits (map (slot r) cs)) (λ r. GoodRow w cs r × (follows above r ≡ true))

@@ -106,8 +106,8 @@ module _ (w : ℕ) (d : Database) (store : List ℕ) where
   stored-rows : (t : ℕ) → tableOk w d store t ≡ true → AllSmall store → Each (GoodRow w (columnList w (tableCols w d t))) (tableRows w d store t)
   stored-rows t e small =
       each-both (tableRows w d store t) good
-        (each-in (tableRows w d store t) (table-shows w d store t e .shaped))
-        (small-rows w (rowCount w d t) (drop (tableStart w d t) store) (small-drop (tableStart w d t) store small))
+      (each-in (tableRows w d store t) (table-shows w d store t e .shaped))
+      (small-rows w (rowCount w d t) (drop (tableStart w d t) store) (small-drop (tableStart w d t) store small))
     where
       good : (r : Row) → Shaped w (tableCols w d t) r → AllSmall r → GoodRow w (columnList w (tableCols w d t)) r
       good r h s = record { shaped = subst (λ D. Shaped w D r) (stored-member t) h; small = small-slots r (columnList w (tableCols w d t)) s }
@@ -152,7 +152,7 @@ module _ (w : ℕ) (d : Database) (store : List ℕ) where
     stored-value-cols : (t : ℕ) → tableCols w (databaseValue w (storedTables w d store)) t ≡ tableCols w d t
     stored-value-cols t = elim (decLt t (d .tables)) [
       | yes h ↦ value-cols w (storedTables w d store) stored-fits t (rw (length-tabulate _ (d .tables)) h)
-        ∙ ap {B = Cols} (λ (t : Table). λ c. member c (t .columns)) (stored-at t h) ∙ sym (stored-member t)
+          ∙ ap {B = Cols} (λ (t : Table). λ c. member c (t .columns)) (stored-at t h) ∙ sym (stored-member t)
       | no h ↦ outside w (databaseValue w (storedTables w d store)) t (rw (length-tabulate _ (d .tables)) (omega arith)) ∙ sym (outside w d t (omega arith))
     ]
 
@@ -169,7 +169,7 @@ module _ (w : ℕ) (d : Database) (store : List ℕ) where
   front (suc n) =
       flatMap-append (λ (t : Table). entries (t .rows)) (tabulate _ n) (_ ∷ [])
       ∙ ap₂ (λ (l m : List ℕ). l ++ m) (front n)
-        (append-nil (entries (tableRows w d store n)) ∙ entries-rowsOf w (rowCount w d n) (drop (tableStart w d n) store))
+      (append-nil (entries (tableRows w d store n)) ∙ entries-rowsOf w (rowCount w d n) (drop (tableStart w d n) store))
       ∙ sym (take-add (tableStart w d n) (w * rowCount w d n) store)
 
   pub stored-front : tableEntries (storedTables w d store) ≡ take (tableStart w d (d .tables)) store

@@ -49,8 +49,8 @@ module _ (w : ℕ) (ts : List Table) (fits : Each (Fits w) ts) where
   value-cols t h = fun-ext λ c.
       let cs = (getD ts t noTable) .columns in
       rw (lt-ltb t (length ts) h)
-        (ap (λ s. colsOf w s c) (value-at (λ (t : Table). columnsOf w (λ c. member c (t .columns))) ts _ _ t h)
-        ∙ ap (λ (D : Cols). D c) (columns-round w (λ c. member c cs) (each-of-member (λ c. c < w) cs (at t h .below))))
+      (ap (λ s. colsOf w s c) (value-at (λ (t : Table). columnsOf w (λ c. member c (t .columns))) ts _ _ t h)
+      ∙ ap (λ (D : Cols). D c) (columns-round w (λ c. member c cs) (each-of-member (λ c. c < w) cs (at t h .below))))
 
   pub value-count : (t : ℕ) → t < length ts → rowCount w (databaseValue w ts) t ≡ length ((getD ts t noTable) .rows)
   value-count t h = value-at (λ (t : Table). length (t .rows)) ts _ 0 t h

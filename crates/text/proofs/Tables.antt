@@ -79,9 +79,9 @@ module _ (w : ℕ) (cs : List ℕ) where
       record {
         reads = λ rows (good, a, e). x .reads rows (chain-rows none rows good a, e);
         printed = λ s t rows e.
-          let (b, (chain, n)) = x .printed s t rows e in
-          let (good, a) = rows-chain none rows chain in
-          (b, (good, a, n));
+            let (b, (chain, n)) = x .printed s t rows e in
+            let (good, a) = rows-chain none rows chain in
+            (b, (good, a, n));
       }
 
 rows-count-exact : ExactLine (countLine "rows=" rowsLimit) (λ n. bytes "rows=" ++ digits n) (λ n. (n ≤ rowsLimit) × (n ≤ maxNumber))
@@ -115,7 +115,7 @@ module _ (w : ℕ) where
       let (b₃, (good, ascends, counted)) = rows-exact w cs columns n .printed s₂ s₃ rows lines in
       let same = put-together (lineText (bytes "cols=" ++ commaDigits cs)) (lineText (bytes "rows=" ++ digits n)) (flatMap (rowText cs) rows) (s₃ .bytes) b₁ b₂ b₃ in
       subst (λ (p : Table × Rest). (s .bytes ≡ rowsText (p .0 .columns) (p .0 .rows) ++ p .1 .bytes) × GoodTable w (p .0)) (accepted-same e₃)
-        (rw counted same, record { columns = columns; rows = good; ascends = ascends; few = rw counted few })
+      (rw counted same, record { columns = columns; rows = good; ascends = ascends; few = rw counted few })
 
   pub table-exact : Exact (readTable w) (λ (t : Table). rowsText (t .columns) (t .rows)) (GoodTable w)
   table-exact = record { reads = table-reads; printed = table-printed }
