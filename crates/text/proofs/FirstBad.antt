@@ -1,18 +1,19 @@
--- What it is that a line is the first bad one of a text, and that readers which go line by line name that line.
-use mathlib.Core.Path.{_≡_, refl, ap, sym, _∙_, subst}
-use mathlib.Core.List.{List}
-use Prim.Native.Nat.{ℕ, suc, _+_, _-_, _≤_, _<_}
-use Prim.Native.String.{String}
-use native.Mathlib.Omega.{arith}
+-- What it is that a line is the first bad one of a text.
+use mathlib.Core.Path.{_≡_}
+use mathlib.Core.Option.{some, none}
+use mathlib.Core.List.{List, [], _++_}
+use Prim.Native.Nat.{ℕ, zero, suc, _+_, _-_, _≤_, _<_}
 use Rattle.laws.proofs.Lists.{count}
 use Rattle.database.specs.declared.Refusal.{Refusal}
-use Rattle.database.specs.Refusals.{Reply, refused, placeOf, _>>=_}
+use Rattle.database.specs.Refusals.{Reply, refused}
 use Rattle.text.specs.Numbers.{newline}
-use Rattle.text.specs.Lines.{Rest, whole, headerLine, countLine}
-use Rattle.text.proofs.Exact.{many-again}
-use Rattle.text.proofs.Counted.{countedFrom, readCounted}
-use Rattle.text.proofs.FirstLines.{firstLines, fewer-lines}
-use Rattle.text.proofs.LineByLine.{Alike, Linewise, one-place, linewise-due, linewise-again, alike-ended}
+use Rattle.text.specs.Lines.{firstLine}
+use Rattle.text.specs.Texts.{lineText}
+
+-- the first k lines of a text, each with its byte 10; all of a text that has fewer
+unfoldable pub firstLines : ℕ → List ℕ → List ℕ
+firstLines zero text = []
+firstLines (suc k) text = elim (firstLine text) [ none ↦ text | some p ↦ lineText (p .0) ++ firstLines k (p .1) ]
 
 -- line k is the first bad one of a text: the lines before it are there, no text with the same lines before it is refused at one of them, and
 -- every text with the same lines up to it is refused at it
@@ -21,43 +22,3 @@ pub record FirstBad {B : Type 0} (bad : ℕ → Refusal) (read : List ℕ → Re
   pub reached : k ≤ count newline text + 1
   pub before : (text′ : List ℕ) → firstLines (k - 1) text ≡ firstLines (k - 1) text′ → (j : ℕ) → j < k → read text′ ≡ refused (bad j) → ⊥
   pub there : (text′ : List ℕ) → firstLines k text ≡ firstLines k text′ → read text′ ≡ refused (bad k)
-
-module _ {B : Type 0} (bad : ℕ → Refusal) (named : (n : ℕ) → placeOf (bad n) ≡ n) where
-  -- the same refusal where the lines up to it are the same, for two readers of whole texts
-  module _ (read read′ : Rest → Reply B) (x : Alike bad B read read′) where
-    same-refusal : (text text′ : List ℕ) (k : ℕ) → firstLines k text ≡ firstLines k text′ → read (whole text) ≡ refused (bad k) → read′ (whole text′) ≡ refused (bad k)
-    same-refusal text text′ k f e =
-        let (low, _) = x .reached (whole text) k e in
-        let next : k ≡ suc (k - 1) = omega arith in
-        x .same (whole text) (whole text′) (k - 1) k (omega arith) refl (subst (λ m. firstLines m text ≡ firstLines m text′) next f) e
-
-  first-bad : (read read′ : Rest → Reply B) → Alike bad B read read′ → Alike bad B read′ read
-      → (text : List ℕ) (k : ℕ) → read (whole text) ≡ refused (bad k) → FirstBad bad (λ t. read′ (whole t)) text k
-  first-bad read read′ x y text k e =
-      let (low, high) = x .reached (whole text) k e in
-      record {
-        counted = low;
-        reached = omega arith;
-        before = λ text′ f j h e′.
-            let again = same-refusal read′ read y text′ text j (sym (fewer-lines j (k - 1) text text′ (omega arith) f)) e′ in
-            let same = one-place bad B named j k (sym again ∙ e) in
-            omega arith;
-        there = λ text′ f. same-refusal read read′ x text text′ k f e;
-      }
-
-  -- both texts are read so; the ends of both readers name no bad line
-  module _ {A : Type 0} (key : String) (most : ℕ) (part : Rest → Reply (A × Rest)) (x : Linewise bad B part) where
-    abbrev Ends : (ℕ → List A → Reply B) → Type 0
-    Ends finish = (n : ℕ) (l : List A) (k : ℕ) → finish n l ≡ refused (bad k) → ⊥
-
-    alike-counted : (f f′ : ℕ → List A → Reply B) → Ends f → Alike bad B (countedFrom bad key most part f) (countedFrom bad key most part f′)
-    alike-counted f f′ g =
-        linewise-due bad B named headerLine .alike _ _ λ _.
-        linewise-due bad B named (countLine key most) .alike _ _ λ n.
-        linewise-again bad B (many-again part) (λ _. x) n tt .alike _ _ λ l.
-        alike-ended bad B named (f n l) (f′ n l) (g n l)
-
-    pub first-bad-counted : (f f′ : ℕ → List A → Reply B) → Ends f → Ends f′ → (text : List ℕ) (k : ℕ)
-        → readCounted bad key most part f text ≡ refused (bad k) → FirstBad bad (readCounted bad key most part f′) text k
-    first-bad-counted f f′ g g′ =
-        first-bad (countedFrom bad key most part f) (countedFrom bad key most part f′) (alike-counted f f′ g) (alike-counted f′ f g′)

@@ -1,7 +1,7 @@
 -- "Of a text, number 1 names the first bad line, a missing one being the line after the last", and so does 11.
 use mathlib.Core.Path.{_≡_, refl, ap, sym, _∙_}
 use mathlib.Core.Bool.{Bool, true, false, _&&_}
-use mathlib.Core.Option.{none}
+use mathlib.Core.Option.{Option, none}
 use mathlib.Core.List.{List}
 use Prim.Native.Nat.{ℕ}
 use native.Mathlib.Omega.{arith}
@@ -13,13 +13,14 @@ use Rattle.database.specs.Refusals.{Reply, refused, accepted, require, number, 
 use Rattle.database.proofs.Replies.{accepted-refused, refused-same}
 use Rattle.query.specs.declared.Node.{Node}
 use Rattle.text.specs.Numbers.{maxNumber}
-use Rattle.text.specs.Lines.{due, countLine, nodeLine, colsLine, rowLine}
+use Rattle.text.specs.Lines.{Rest, due, countLine, nodeLine, colsLine, rowLine}
 use Rattle.text.specs.Texts.{Table, readRows, readTable, readNodes, readTables}
 use Rattle.text.proofs.Lines.{countTested}
 use Rattle.text.proofs.Tables.{rows-again}
-use Rattle.text.proofs.FirstLines.{firstLines}
-use Rattle.text.proofs.LineByLine.{Linewise, linewise-end, linewise-then, linewise-again, linewise-due}
-use Rattle.text.proofs.FirstBad.{FirstBad, first-bad-counted}
+use Rattle.text.proofs.Carried.{carries-end, carries-then, carries-again}
+use Rattle.text.proofs.LineByLine.{Alike, Linewise, linewise-due}
+use Rattle.text.proofs.FirstBad.{firstLines, FirstBad}
+use Rattle.text.proofs.FirstBadCounted.{first-bad-counted}
 
 count-no-line : (limit n : ℕ) (ns : List Node) (k : ℕ) → countTested limit n ns ≡ refused (QueryForm k) → ⊥
 count-no-line limit n ns k e = by-test (leb 1 n && leb n limit) e
@@ -38,16 +39,16 @@ first-bad-query-line w limit limit′ =
 table-linewise : (w : ℕ) → Linewise DatabaseForm (List Table) (readTable w)
 unfolding readTable
 table-linewise w =
-    linewise-then bad B (linewise-due bad B (λ n. refl) (colsLine w)) λ cs.
-    linewise-then bad B (linewise-due bad B (λ n. refl) (countLine "rows=" rowsLimit)) λ n.
-    linewise-then bad B (linewise-again bad B (rows-again w cs) (λ above. linewise-due bad B (λ n. refl) (rowLine w cs above)) n none) λ rows.
-    linewise-end bad B (record { columns = cs; rows = rows })
+    carries-then R (line (colsLine w)) λ cs.
+    carries-then R (line (countLine "rows=" rowsLimit)) λ n.
+    carries-then R (carries-again R (rows-again w cs) (λ above. line (rowLine w cs above)) n none) λ rows.
+    carries-end R (record { columns = cs; rows = rows })
   where
-    bad : ℕ → Refusal
-    bad n = DatabaseForm n
+    R : (Rest → Reply (List Table)) → (Rest → Reply (List Table)) → Type 0
+    R = Alike DatabaseForm (List Table)
 
-    B : Type 0
-    B = List Table
+    line : {A : Type 0} (form : List ℕ → Option A) → Linewise DatabaseForm (List Table) (due DatabaseForm form)
+    line = linewise-due DatabaseForm (List Table) (λ n. refl)
 
 pub first-bad-database-line : (w : ℕ) (text : List ℕ) (k : ℕ) → readTables w text ≡ refused (DatabaseForm k)
     → FirstBad DatabaseForm (readTables w) text k

@@ -1,4 +1,4 @@
--- The first lines of a text, and texts whose first lines are the same.
+-- Texts whose first lines are the same.
 use mathlib.Core.Path.{_≡_, refl, ap, sym, _∙_, subst}
 use mathlib.Core.Bool.{Bool, true, false}
 use mathlib.Core.Option.{Option, some, none}
@@ -12,12 +12,8 @@ use Rattle.laws.proofs.Lists.{count, count-append, count-head}
 use Rattle.text.specs.Numbers.{newline}
 use Rattle.text.specs.Lines.{firstLine}
 use Rattle.text.specs.Texts.{lineText}
+use Rattle.text.proofs.FirstBad.{firstLines}
 use Rattle.text.proofs.FirstLine.{first-line, line-first}
-
--- the first k lines of a text, each with its byte 10; all of a text that has fewer
-unfoldable pub firstLines : ℕ → List ℕ → List ℕ
-firstLines zero text = []
-firstLines (suc k) text = elim (firstLine text) [ none ↦ text | some p ↦ lineText (p .0) ++ firstLines k (p .1) ]
 
 -- two texts whose first lines are the same both have no whole line, or the same first one
 pub data SameFirst (k : ℕ) (s t : List ℕ) : Type 0 where
@@ -28,7 +24,7 @@ lines-none : (k : ℕ) (s : List ℕ) → firstLine s ≡ none → firstLines (s
 unfolding firstLines
 lines-none k s e = rw (e, firstLines)
 
-lines-some : (k : ℕ) (s l r : List ℕ) → firstLine s ≡ some (l, r) → firstLines (suc k) s ≡ lineText l ++ firstLines k r
+pub lines-some : (k : ℕ) (s l r : List ℕ) → firstLine s ≡ some (l, r) → firstLines (suc k) s ≡ lineText l ++ firstLines k r
 unfolding firstLines
 lines-some k s l r e = rw (e, firstLines)
 

@@ -13,9 +13,11 @@ pub mod Filled
 pub mod RowLines
 pub mod Tables
 pub mod DatabaseRoundTrip
+pub mod Carried
+pub mod FirstBad
 pub mod FirstLines
 pub mod LineByLine
-pub mod FirstBad
+pub mod FirstBadCounted
 pub mod FirstBadLine
 pub mod ColumnLists
 pub mod Entries

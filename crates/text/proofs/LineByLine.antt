@@ -12,9 +12,10 @@ use Rattle.database.specs.Refusals.{Reply, refused, accepted, require, placeOf,
 use Rattle.database.proofs.Replies.{accepted-refused, refused-same}
 use Rattle.text.specs.Numbers.{newline}
 use Rattle.text.specs.Lines.{Rest, firstLine, due, ended}
-use Rattle.text.proofs.ReplyLaws.{bind-assoc}
-use Rattle.text.proofs.Exact.{from, Again}
-use Rattle.text.proofs.FirstLines.{firstLines, SameFirst, no-line, same-line, same-first, first-null, lines-count}
+use Rattle.text.proofs.Exact.{from}
+use Rattle.text.proofs.Carried.{followed, Carries}
+use Rattle.text.proofs.FirstBad.{firstLines}
+use Rattle.text.proofs.FirstLines.{SameFirst, no-line, same-line, same-first, first-null, lines-count}
 
 module _ (bad : ℕ → Refusal) (B : Type 0) where
   -- where read refuses a line, that line is reached, and other refuses it too on each text with the same lines up to it
@@ -23,44 +24,9 @@ module _ (bad : ℕ → Refusal) (B : Type 0) where
     pub same : (s t : Rest) (i k : ℕ) → k ≡ s .line + i → s .line ≡ t .line → firstLines (suc i) (s .bytes) ≡ firstLines (suc i) (t .bytes)
         → read s ≡ refused (bad k) → other t ≡ refused (bad k)
 
-  pub alike-along : {read other read′ other′ : Rest → Reply B} → ((s : Rest) → read′ s ≡ read s) → ((s : Rest) → other′ s ≡ other s)
-      → Alike read other → Alike read′ other′
-  alike-along p q x = record {
-    reached = λ s k e. x .reached s k (sym (p s) ∙ e);
-    same = λ s t i k h l f e. q t ∙ x .same s t i k h l f (sym (p s) ∙ e);
-  }
-
-  -- a part of a text, and what follows it
-  abbrev pub followed : {A : Type 0} → (Rest → Reply (A × Rest)) → (A → Rest → Reply B) → Rest → Reply B
-  followed part next s = part s >>= λ p. next (p .0) (p .1)
-
   -- a part that goes line by line
-  pub record Linewise {A : Type 0} (part : Rest → Reply (A × Rest)) : Type 0 where
-    pub alike : (next next′ : A → Rest → Reply B) → ((a : A) → Alike (next a) (next′ a)) → Alike (followed part next) (followed part next′)
-
-  pub linewise-end : {A : Type 0} (a : A) → Linewise (λ s. accepted (a, s))
-  linewise-end a = record { alike = λ next next′ x. x a }
-
-  pub linewise-then : {A C : Type 0} {part : Rest → Reply (A × Rest)} {parts : A → Rest → Reply (C × Rest)}
-      → Linewise part → ((a : A) → Linewise (parts a)) → Linewise (λ s. part s >>= λ p. parts (p .0) (p .1))
-  linewise-then {part = part} {parts = parts} x y = record {
-    alike = λ next next′ z.
-        alike-along (λ s. bind-assoc (part s) _ _) (λ s. bind-assoc (part s) _ _)
-        (x .alike (λ a. followed (parts a) next) (λ a. followed (parts a) next′) (λ a. y a .alike next next′ z));
-  }
-
-  pub linewise-along : {A : Type 0} {part part′ : Rest → Reply (A × Rest)} → ((s : Rest) → part′ s ≡ part s) → Linewise part → Linewise part′
-  linewise-along p x = record {
-    alike = λ next next′ z.
-        alike-along (λ s. ap (λ r. r >>= λ q. next (q .0) (q .1)) (p s)) (λ s. ap (λ r. r >>= λ q. next′ (q .0) (q .1)) (p s)) (x .alike next next′ z);
-  }
-
-  -- a part again and again
-  pub linewise-again : {S A : Type 0} {part : S → Rest → Reply (A × Rest)} {next : A → S} {loop : ℕ → S → Rest → Reply (List A × Rest)}
-      → Again part next loop → ((c : S) → Linewise (part c)) → (n : ℕ) (c : S) → Linewise (loop n c)
-  linewise-again again x zero c = linewise-along (again .end c) (linewise-end [])
-  linewise-again {next = next} again x (suc n) c =
-      linewise-along (again .more n c) (linewise-then (x c) λ a. linewise-then (linewise-again again x n (next a)) λ l. linewise-end (a ∷ l))
+  abbrev pub Linewise : {A : Type 0} → (Rest → Reply (A × Rest)) → Type 0
+  Linewise part = Carries Alike part
 
 -- how a due line is read: there is none, or it is off the form, or it is on the form
 module _ (bad : ℕ → Refusal) {A : Type 0} (form : List ℕ → Option A) (s : Rest) where
@@ -72,37 +38,45 @@ module _ (bad : ℕ → Refusal) {A : Type 0} (form : List ℕ → Option A) (s 
   unfolding due
   due-off l r e f = rw (e, due) (rw f)
 
-  due-on : (l r : List ℕ) (a : A) → firstLine (s .bytes) ≡ some (l, r) → form l ≡ some a → due bad form s ≡ accepted (a, from (s .line + 1) r)
+  pub due-on : (l r : List ℕ) (a : A) → firstLine (s .bytes) ≡ some (l, r) → form l ≡ some a → due bad form s ≡ accepted (a, from (s .line + 1) r)
   unfolding due
   due-on l r a e f = rw (e, due) (rw f)
+
+  pub data Due : Type 0 where
+    is-bad : due bad form s ≡ refused (bad (s .line)) → Due
+    is-good : (l r : List ℕ) (a : A) → firstLine (s .bytes) ≡ some (l, r) → due bad form s ≡ accepted (a, from (s .line + 1) r) → Due
+
+  pub due? : Due
+  due? = by-line (firstLine (s .bytes)) refl
+    where
+      by-form : (l r : List ℕ) → firstLine (s .bytes) ≡ some (l, r) → (o : Option A) → form l ≡ o → Due
+      by-form l r f none g = is-bad (due-off l r f g)
+      by-form l r f (some a) g = is-good l r a f (due-on l r a f g)
+
+      by-line : (o : Option (List ℕ × List ℕ)) → firstLine (s .bytes) ≡ o → Due
+      by-line none f = is-bad (due-gone f)
+      by-line (some p) f = by-form (p .0) (p .1) f (form (p .0)) refl
 
 module _ (bad : ℕ → Refusal) (B : Type 0) (named : (n : ℕ) → placeOf (bad n) ≡ n) where
   pub one-place : (m n : ℕ) → _≡_ {A = Reply B} (refused (bad m)) (refused (bad n)) → m ≡ n
   one-place m n e = sym (named m) ∙ ap placeOf (refused-same e) ∙ named n
 
   module _ {A : Type 0} (form : List ℕ → Option A) (next next′ : A → Rest → Reply B) (x : (a : A) → Alike bad B (next a) (next′ a)) where
-    due-reached : (s : Rest) (k : ℕ) → followed bad B (due bad form) next s ≡ refused (bad k) → (s .line ≤ k) × (k ≤ s .line + count newline (s .bytes))
-    due-reached s k e = by-line (firstLine (s .bytes)) refl
+    due-reached : (s : Rest) (k : ℕ) → followed (due bad form) next s ≡ refused (bad k) → (s .line ≤ k) × (k ≤ s .line + count newline (s .bytes))
+    due-reached s k e = by-line (due? bad form s)
       where
-        at-once : due bad form s ≡ refused (bad (s .line)) → (s .line ≤ k) × (k ≤ s .line + count newline (s .bytes))
-        at-once d = let p = one-place (s .line) k (rw d at e) in (omega arith, omega arith)
-
-        by-form : (l r : List ℕ) → firstLine (s .bytes) ≡ some (l, r) → (o : Option A) → form l ≡ o → (s .line ≤ k) × (k ≤ s .line + count newline (s .bytes))
-        by-form l r f none g = at-once (due-off bad form s l r f g)
-        by-form l r f (some a) g =
-            let (low, high) = x a .reached (from (s .line + 1) r) k (rw (due-on bad form s l r a f g) at e) in
+        by-line : Due bad form s → (s .line ≤ k) × (k ≤ s .line + count newline (s .bytes))
+        by-line (is-bad d) = let p = one-place (s .line) k (rw d at e) in (omega arith, omega arith)
+        by-line (is-good l r a f d) =
+            let (low, high) = x a .reached (from (s .line + 1) r) k (rw d at e) in
             let more = lines-count (s .bytes) l r f in
             (omega arith, omega arith)
 
-        by-line : (o : Option (List ℕ × List ℕ)) → firstLine (s .bytes) ≡ o → (s .line ≤ k) × (k ≤ s .line + count newline (s .bytes))
-        by-line none f = at-once (due-gone bad form s f)
-        by-line (some p) f = by-form (p .0) (p .1) f (form (p .0)) refl
-
     due-same : (s t : Rest) (i k : ℕ) → k ≡ s .line + i → s .line ≡ t .line → firstLines (suc i) (s .bytes) ≡ firstLines (suc i) (t .bytes)
-        → followed bad B (due bad form) next s ≡ refused (bad k) → followed bad B (due bad form) next′ t ≡ refused (bad k)
+        → followed (due bad form) next s ≡ refused (bad k) → followed (due bad form) next′ t ≡ refused (bad k)
     due-same s t i k h n f e = by-first (same-first i (s .bytes) (t .bytes) f)
       where
-        at-once : due bad form s ≡ refused (bad (s .line)) → due bad form t ≡ refused (bad (t .line)) → followed bad B (due bad form) next′ t ≡ refused (bad k)
+        at-once : due bad form s ≡ refused (bad (s .line)) → due bad form t ≡ refused (bad (t .line)) → followed (due bad form) next′ t ≡ refused (bad k)
         at-once d d′ = rw d′ (ap (λ m. refused (bad m)) (sym n ∙ one-place (s .line) k (rw d at e)))
 
         later : (i : ℕ) → k ≡ s .line + i → (r q : List ℕ) (a : A) → firstLines i r ≡ firstLines i q
@@ -111,20 +85,20 @@ module _ (bad : ℕ → Refusal) (B : Type 0) (named : (n : ℕ) → placeOf (ba
         later (suc i) h r q a p e = x a .same (from (s .line + 1) r) (from (t .line + 1) q) i k (omega arith) (omega arith) p e
 
         by-form : (l r q : List ℕ) → firstLine (s .bytes) ≡ some (l, r) → firstLine (t .bytes) ≡ some (l, q) → firstLines i r ≡ firstLines i q
-            → (o : Option A) → form l ≡ o → followed bad B (due bad form) next′ t ≡ refused (bad k)
+            → (o : Option A) → form l ≡ o → followed (due bad form) next′ t ≡ refused (bad k)
         by-form l r q f f′ p none g = at-once (due-off bad form s l r f g) (due-off bad form t l q f′ g)
         by-form l r q f f′ p (some a) g = rw (due-on bad form t l q a f′ g) (later i h r q a p (rw (due-on bad form s l r a f g) at e))
 
-        by-first : SameFirst i (s .bytes) (t .bytes) → followed bad B (due bad form) next′ t ≡ refused (bad k)
+        by-first : SameFirst i (s .bytes) (t .bytes) → followed (due bad form) next′ t ≡ refused (bad k)
         by-first (no-line f g) = at-once (due-gone bad form s f) (due-gone bad form t g)
         by-first (same-line l r q f g p) = by-form l r q f g p (form l) refl
 
   pub linewise-due : {A : Type 0} (form : List ℕ → Option A) → Linewise bad B (due bad form)
-  linewise-due form = record { alike = λ next next′ x. record { reached = due-reached form next next′ x; same = due-same form next next′ x } }
+  linewise-due form = record { carried = λ next next′ x. record { reached = due-reached form next next′ x; same = due-same form next next′ x } }
 
   -- the end of a text, where what is replied then is no bad line
   module _ (r r′ : Reply B) (good : (k : ℕ) → r ≡ refused (bad k) → ⊥) where
-    left-over : (s : Rest) (k : ℕ) → (ended bad s >>= λ _. r) ≡ refused (bad k) → (null (s .bytes) ≡ false) × (s .line ≡ k)
+    pub left-over : (s : Rest) (k : ℕ) → (ended bad s >>= λ _. r) ≡ refused (bad k) → (null (s .bytes) ≡ false) × (s .line ≡ k)
     left-over s k e = by-test (null (s .bytes)) refl e
       where
         by-test : (t : Bool) → null (s .bytes) ≡ t → (require t (bad (s .line)) >>= λ _. r) ≡ refused (bad k) → (null (s .bytes) ≡ false) × (s .line ≡ k)
