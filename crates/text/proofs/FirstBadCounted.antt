@@ -47,7 +47,7 @@ module _ {B : Type 0} (bad : ℕ → Refusal) (named : (n : ℕ) → placeOf (ba
         linewise-due bad B named headerLine .carried _ _ λ _.
         linewise-due bad B named (countLine key most) .carried _ _ λ n.
         carries-again (Alike bad B) (many-again part) (λ _. x) n tt .carried _ _ λ l.
-        alike-ended bad B named (f n l) (f′ n l) (g n l)
+        alike-ended bad B named (f n l) (g n l) (f′ n l)
 
     pub first-bad-counted : (f f′ : ℕ → List A → Reply B) → Ends f → Ends f′ → (text : List ℕ) (k : ℕ)
         → readCounted bad key most part f text ≡ refused (bad k) → FirstBad bad (readCounted bad key most part f′) text k

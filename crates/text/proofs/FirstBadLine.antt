@@ -22,7 +22,7 @@ use Rattle.text.proofs.LineByLine.{Alike, Linewise, linewise-due}
 use Rattle.text.proofs.FirstBad.{firstLines, FirstBad}
 use Rattle.text.proofs.FirstBadCounted.{first-bad-counted}
 
-count-no-line : (limit n : ℕ) (ns : List Node) (k : ℕ) → countTested limit n ns ≡ refused (QueryForm k) → ⊥
+pub count-no-line : (limit n : ℕ) (ns : List Node) (k : ℕ) → countTested limit n ns ≡ refused (QueryForm k) → ⊥
 count-no-line limit n ns k e = by-test (leb 1 n && leb n limit) e
   where
     by-test : (t : Bool) → (require t (NodeCount 2) >>= λ _. accepted ns) ≡ refused (QueryForm k) → ⊥

@@ -18,7 +18,9 @@ pub mod FirstBad
 pub mod FirstLines
 pub mod LineByLine
 pub mod FirstBadCounted
+pub mod Completed
 pub mod FirstBadLine
+pub mod LinesBefore
 pub mod ColumnLists
 pub mod Entries
 pub mod StoredValues

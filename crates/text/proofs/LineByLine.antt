@@ -44,14 +44,14 @@ module _ (bad : ℕ → Refusal) {A : Type 0} (form : List ℕ → Option A) (s 
 
   pub data Due : Type 0 where
     is-bad : due bad form s ≡ refused (bad (s .line)) → Due
-    is-good : (l r : List ℕ) (a : A) → firstLine (s .bytes) ≡ some (l, r) → due bad form s ≡ accepted (a, from (s .line + 1) r) → Due
+    is-good : (l r : List ℕ) (a : A) → firstLine (s .bytes) ≡ some (l, r) → form l ≡ some a → due bad form s ≡ accepted (a, from (s .line + 1) r) → Due
 
   pub due? : Due
   due? = by-line (firstLine (s .bytes)) refl
     where
       by-form : (l r : List ℕ) → firstLine (s .bytes) ≡ some (l, r) → (o : Option A) → form l ≡ o → Due
       by-form l r f none g = is-bad (due-off l r f g)
-      by-form l r f (some a) g = is-good l r a f (due-on l r a f g)
+      by-form l r f (some a) g = is-good l r a f g (due-on l r a f g)
 
       by-line : (o : Option (List ℕ × List ℕ)) → firstLine (s .bytes) ≡ o → Due
       by-line none f = is-bad (due-gone f)
@@ -67,7 +67,7 @@ module _ (bad : ℕ → Refusal) (B : Type 0) (named : (n : ℕ) → placeOf (ba
       where
         by-line : Due bad form s → (s .line ≤ k) × (k ≤ s .line + count newline (s .bytes))
         by-line (is-bad d) = let p = one-place (s .line) k (rw d at e) in (omega arith, omega arith)
-        by-line (is-good l r a f d) =
+        by-line (is-good l r a f g d) =
             let (low, high) = x a .reached (from (s .line + 1) r) k (rw d at e) in
             let more = lines-count (s .bytes) l r f in
             (omega arith, omega arith)
@@ -97,7 +97,7 @@ module _ (bad : ℕ → Refusal) (B : Type 0) (named : (n : ℕ) → placeOf (ba
   linewise-due form = record { carried = λ next next′ x. record { reached = due-reached form next next′ x; same = due-same form next next′ x } }
 
   -- the end of a text, where what is replied then is no bad line
-  module _ (r r′ : Reply B) (good : (k : ℕ) → r ≡ refused (bad k) → ⊥) where
+  module _ (r : Reply B) (good : (k : ℕ) → r ≡ refused (bad k) → ⊥) where
     pub left-over : (s : Rest) (k : ℕ) → (ended bad s >>= λ _. r) ≡ refused (bad k) → (null (s .bytes) ≡ false) × (s .line ≡ k)
     left-over s k e = by-test (null (s .bytes)) refl e
       where
@@ -105,8 +105,8 @@ module _ (bad : ℕ → Refusal) (B : Type 0) (named : (n : ℕ) → placeOf (ba
         by-test true n e = absurd (good k e)
         by-test false n e = (n, one-place (s .line) k e)
 
-    pub alike-ended : Alike bad B (λ s. ended bad s >>= λ _. r) (λ s. ended bad s >>= λ _. r′)
-    alike-ended = record {
+    pub alike-ended : (r′ : Reply B) → Alike bad B (λ s. ended bad s >>= λ _. r) (λ s. ended bad s >>= λ _. r′)
+    alike-ended r′ = record {
       reached = λ s k e. let (_, p) = left-over s k e in (omega arith, omega arith);
       same = λ s t i k h n f e.
           let (filled, p) = left-over s k e in

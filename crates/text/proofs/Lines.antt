@@ -64,6 +64,10 @@ count-exact key most p = record {
     single l n (m ∷ []) (s, _) v e = subst (λ n. (bytes key ++ digits n ≡ l) × (n ≤ maxNumber)) (some-inj v) (e, s)
     single l n (m ∷ (k ∷ ns)) s v e = none-some v
 
+pub nodes-plain : plain (bytes "nodes=") ≡ true
+unfolding plain every bytes
+nodes-plain = refl
+
 -- the end of reading a query: its node count is tested
 abbrev pub countTested : ℕ → ℕ → List Node → Reply (List Node)
 countTested limit n ns = require (leb 1 n && leb n limit) (NodeCount 2) >>= λ _. accepted ns

@@ -6,7 +6,6 @@ use Prim.Native.Nat.{ℕ, _≤_}
 use lib.Dec.{leb}
 use lib.ListN.{length}
 use borrow.Author.Tests.{leb-true, le-leb}
-use Rattle.laws.specs.Lists.{every}
 use Rattle.laws.proofs.Tests.{and-true}
 use Rattle.laws.proofs.TextLists.{Each, both-true}
 use Rattle.database.specs.declared.Refusal.the-variants.{QueryForm, NodeCount}
@@ -16,15 +15,10 @@ use Rattle.query.specs.declared.Node.{Node}
 use Rattle.text.specs.Numbers.{bytes, maxNumber}
 use Rattle.text.specs.Lines.{nodeLine}
 use Rattle.text.specs.Texts.{readNodes, queryText}
-use Rattle.text.proofs.Forms.{plain}
 use Rattle.text.proofs.ReplyLaws.{bind-accepted, required}
 use Rattle.text.proofs.Exact.{due-exact}
 use Rattle.text.proofs.Counted.{counted-reads, counted-printed}
-use Rattle.text.proofs.Lines.{GoodNode, node-exact, countTested}
-
-nodes-plain : plain (bytes "nodes=") ≡ true
-unfolding plain every bytes
-nodes-plain = refl
+use Rattle.text.proofs.Lines.{GoodNode, node-exact, nodes-plain, countTested}
 
 pub query-round-trip : (w limit : ℕ) (ns : List Node) → 1 ≤ length ns → length ns ≤ limit → length ns ≤ maxNumber → Each (GoodNode w) ns
     → readNodes w limit (queryText ns) ≡ accepted ns
