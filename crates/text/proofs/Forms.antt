@@ -13,7 +13,7 @@ use Rattle.laws.proofs.Options.{some-inj, none-some}
 use Rattle.laws.proofs.TextLists.{each-map, each-append, every-each, Some, first, later, both-true, kept}
 use Rattle.text.specs.Numbers.{bytes, newline, numbers, commaDigits}
 use Rattle.text.specs.Lines.{after, numbersAfter, Form, word, one, two, ifEmpty, ifOne, ifTwo, byForm, byForms, inRange}
-use Rattle.text.proofs.Numbers.{AllSmall, comma-digits-without, numbers-digits, digits-numbers}
+use Rattle.text.proofs.NumberLists.{AllSmall, comma-digits-without, numbers-digits, digits-numbers}
 use Rattle.text.proofs.Commas.{Without}
 
 -- a key, and what follows it
@@ -134,6 +134,9 @@ module _ {A : Type 0} where
       by-rest (some (c ∷ m)) q e = none-some e
   printed-read (one s f) a l e = let (ns, small, value, line) = behind-key s (ifOne f) a l refl e in record { ns = ns; small = small; value = value; line = line }
   printed-read (two s f) a l e = let (ns, small, value, line) = behind-key s (ifTwo f) a l refl e in record { ns = ns; small = small; value = value; line = line }
+
+  pub prints-unbroken : (form : Form A) (a : A) (l : List ℕ) → plain (bytes (keyOf form)) ≡ true → Prints form a l → Without newline l
+  prints-unbroken form a l p q = subst (Without newline) (q .line) (key-numbers-unbroken (keyOf form) p (q .ns))
 
   -- a line behind another key doesn't have the form
   pub other-form : (form : Form A) (key l : List ℕ) → apart (bytes (keyOf form)) key ≡ true → byForm form (key ++ l) ≡ none

@@ -1,7 +1,9 @@
 pub mod Digits
 pub mod Commas
 pub mod Numbers
+pub mod NumberLists
 pub mod Forms
+pub mod NodeForms
 pub mod NodeLines
 pub mod ReplyLaws
 pub mod FirstLine

@@ -15,9 +15,10 @@ use Rattle.query.specs.declared.Node.{Node}
 use Rattle.query.specs.Lines.{onForm}
 use Rattle.text.specs.Numbers.{bytes, maxNumber, digits, commaDigits}
 use Rattle.text.specs.Lines.{word, one, byForm, headerLine, countLine, nodeLine, nodeText}
-use Rattle.text.proofs.Numbers.{AllSmall}
+use Rattle.text.proofs.NumberLists.{AllSmall}
 use Rattle.text.proofs.Forms.{valueOf, Prints, plain, plain-unbroken, key-numbers-unbroken, read-printed, printed-read, in-range, range-in}
-use Rattle.text.proofs.NodeLines.{Small, node-line, line-node, node-unbroken}
+use Rattle.text.proofs.NodeForms.{Small, node-unbroken}
+use Rattle.text.proofs.NodeLines.{node-line, line-node}
 use Rattle.text.proofs.Exact.{ExactLine}
 
 -- a node that the lines can say, over w columns
@@ -27,7 +28,7 @@ GoodNode w n = (onForm w n ≡ true) × Small n
 pub node-exact : (w : ℕ) → ExactLine (nodeLine w) nodeText (GoodNode w)
 node-exact w = record {
   reads = λ n (h, s). node-line w n h s;
-  unbroken = λ n h. node-unbroken n;
+  unbroken = λ n (_, s). node-unbroken n s;
   printed = λ l n e. let (t, h, s) = line-node w l n e in (t, (h, s));
 }
 

@@ -15,7 +15,7 @@ use Rattle.relation.specs.Rows.{Row, Rows, slot, ordered, isLess, ascend}
 use Rattle.relation.proofs.Shows.{Shaped}
 use Rattle.text.specs.Numbers.{bytes, commaDigits}
 use Rattle.text.specs.Lines.{numbersAfter, inRange, ascending, colsLine, filled, follows, rowOf, rowLine}
-use Rattle.text.proofs.Numbers.{AllSmall}
+use Rattle.text.proofs.NumberLists.{AllSmall}
 use Rattle.text.proofs.Forms.{plain, key-numbers-unbroken, numbers-after, after-numbers, in-range, range-in}
 use Rattle.text.proofs.Filled.{filled-length, filled-other, filled-slots, zeros-zero, filled-own}
 use Rattle.text.proofs.Exact.{ExactLine}

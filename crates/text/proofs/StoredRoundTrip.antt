@@ -11,7 +11,7 @@ use Rattle.database.specs.Refusals.{accepted}
 use Rattle.database.specs.Stored.{schema, tableStart, tableRows, checkDatabase}
 use Rattle.text.specs.Numbers.{maxNumber}
 use Rattle.text.specs.Texts.{Table, readTables, databaseValue, tableEntries, storedTables, databaseText}
-use Rattle.text.proofs.Numbers.{AllSmall}
+use Rattle.text.proofs.NumberLists.{AllSmall}
 use Rattle.text.proofs.Tables.{GoodTable}
 use Rattle.text.proofs.DatabaseRoundTrip.{database-round-trip, read-database-printed}
 use Rattle.text.proofs.ReadTables.{all-fit, value-checked}

@@ -23,7 +23,7 @@ use Rattle.database.proofs.Stored.{table-below, checkDatabase-iff}
 use Rattle.database.proofs.Tested.{table-shows}
 use Rattle.text.specs.Numbers.{maxNumber}
 use Rattle.text.specs.Texts.{Table, columnList, databaseValue, tableEntries, storedTables}
-use Rattle.text.proofs.Numbers.{AllSmall}
+use Rattle.text.proofs.NumberLists.{AllSmall}
 use Rattle.text.proofs.RowLines.{GoodColumns, GoodRow}
 use Rattle.text.proofs.Tables.{GoodTable}
 use Rattle.text.proofs.ColumnLists.{columns-null, columns-ascend, columns-member}
