@@ -1,13 +1,14 @@
 -- Lists of any element: a fact of each member, and tests over all members.
 use mathlib.Core.Path.{_≡_, refl, ap, sym, _∙_}
 use mathlib.Core.Bool.{Bool, true, false, _&&_}
-use mathlib.Core.Option.{Option, some, none}
+use mathlib.Core.Option.{some, none}
 use mathlib.Core.Logic.{inl, inr}
 use mathlib.Core.List.{List, [], _∷_, _++_, map, flatMap, append-assoc}
 use Prim.Native.Nat.{ℕ, zero, suc, _<_}
+use native.Mathlib.Omega.{arith}
 use native.Mathlib.Nat.{le-of-suc-le-suc, not-suc-le-zero}
 use lib.ListN.{length, getD}
-use Rattle.laws.specs.Lists.{if_then_else_, every, any, member}
+use Rattle.laws.specs.Lists.{if_then_else_, every, any, member, tabulate}
 use Rattle.laws.proofs.Tests.{true-false, same?, and-true-left, and-true-right, and-true}
 use Rattle.laws.proofs.Options.{some-inj, none-some}
 
@@ -34,6 +35,15 @@ each-every p (a ∷ l) (h, k) = and-true _ _ h (each-every p l k)
 pub each-append : {A : Type 0} (P : A → Type 0) (l m : List A) → Each P l → Each P m → Each P (l ++ m)
 each-append P [] m h k = k
 each-append P (a ∷ l) m (h, i) k = (h, each-append P l m i k)
+
+pub each-both : {A : Type 0} {P Q R : A → Type 0} (l : List A) → ((a : A) → P a → Q a → R a) → Each P l → Each Q l → Each R l
+each-both [] f h k = tt
+each-both (a ∷ l) f (h, hs) (k, ks) = (f a h k, each-both l f hs ks)
+
+pub each-tabulate : {A : Type 0} (P : A → Type 0) (f : ℕ → A) (n : ℕ) → ((t : ℕ) → t < n → P (f t)) → Each P (tabulate f n)
+unfolding tabulate
+each-tabulate P f zero h = tt
+each-tabulate P f (suc n) h = each-append P (tabulate f n) (f n ∷ []) (each-tabulate P f n (λ t k. h t (omega arith))) (h n (omega arith), tt)
 
 pub each-of-member : (P : ℕ → Type 0) (l : List ℕ) → Each P l → (n : ℕ) → member n l ≡ true → P n
 unfolding any

@@ -8,9 +8,9 @@ use native.Mathlib.Omega.{arith}
 use native.Mathlib.Nat.{not-suc-le-zero}
 use native.Mathlib.Decide.{decLt}
 use lib.Dec.{eqb, ltb}
-use borrow.Author.Tests.{ltb-true, lt-ltb, eqb-true, ne-eqb}
-use Rattle.laws.specs.Lists.{if_then_else_, null, any, member, every, all, sift, tabulate}
-use Rattle.laws.proofs.Tests.{true-false, eqb-self, same?, and-true}
+use borrow.Author.Tests.{lt-ltb}
+use Rattle.laws.specs.Lists.{if_then_else_, null, any, member, all, sift, tabulate}
+use Rattle.laws.proofs.Tests.{true-false, same?, and-true}
 use Rattle.laws.proofs.Lists.{member-head, sift-append}
 use Rattle.laws.proofs.Faults.{member-append}
 use Rattle.laws.proofs.TextLists.{Each, each-map, each-append, each-of-member, both-true}
@@ -35,7 +35,8 @@ pub columns-null : (w : ℕ) (D : Cols) → null (columnList w D) ≡ all (λ c.
 unfolding all
 columns-null w D =
     columns-hold (λ w l. null l ≡ all (λ c. not (D c)) w) D refl
-    (λ w l e h. null-more w l ∙ sym (rw e (and-false (all (λ c. not (D c)) w)))) (λ w l e h. h ∙ sym (rw e (and-yes (all (λ c. not (D c)) w)))) w
+    (λ w l e h. null-more w l ∙ sym (rw e (and-false (all (λ c. not (D c)) w))))
+    (λ w l e h. h ∙ sym (rw e (and-yes (all (λ c. not (D c)) w)))) w
   where
     null-more : (w : ℕ) (l : List ℕ) → null (l ++ (w ∷ [])) ≡ false
     null-more w [] = refl
@@ -65,7 +66,8 @@ pub columns-ascend : (w : ℕ) (D : Cols) → Each (λ c. c < w) (columnList w D
 unfolding ascending
 columns-ascend w D =
     columns-hold (λ w l. Each (λ c. c < w) l × (ascending l ≡ true)) D (tt, refl)
-    (λ w l _ (h, a). (each-append (λ c. c < suc w) l (w ∷ []) (weaker w l h) (omega arith, tt), ascending-last w l h a)) (λ w l _ (h, a). (weaker w l h, a)) w
+    (λ w l _ (h, a). (each-append (λ c. c < suc w) l (w ∷ []) (weaker w l h) (omega arith, tt), ascending-last w l h a))
+    (λ w l _ (h, a). (weaker w l h, a)) w
   where
     weaker : (w : ℕ) (l : List ℕ) → Each (λ c. c < w) l → Each (λ c. c < suc w) l
     weaker w l h = each-map l (λ c k. omega arith) h

@@ -1,13 +1,13 @@
 -- Readers whose lines can be gone on from: the lines before a bad one are also the first lines of a text without a bad line.
 use mathlib.Core.Path.{_≡_, refl, ap, sym, _∙_}
-use mathlib.Core.Option.{Option, some, none}
+use mathlib.Core.Option.{Option, some}
 use mathlib.Core.List.{List, [], _++_}
-use Prim.Native.Nat.{ℕ, zero, suc, _+_, _≤_}
+use Prim.Native.Nat.{ℕ, zero, suc, _+_}
 use native.Mathlib.Omega.{arith}
 use Rattle.database.specs.declared.Refusal.{Refusal}
 use Rattle.database.specs.Refusals.{Reply, refused, placeOf, _>>=_}
 use Rattle.text.specs.Numbers.{newline}
-use Rattle.text.specs.Lines.{Rest, firstLine, due, ended}
+use Rattle.text.specs.Lines.{Rest, due, ended}
 use Rattle.text.specs.Texts.{lineText}
 use Rattle.text.proofs.Commas.{Without}
 use Rattle.text.proofs.FirstLine.{first-line, line-first}
@@ -52,12 +52,12 @@ module _ (bad : ℕ → Refusal) (B : Type 0) (named : (n : ℕ) → placeOf (ba
     due-completed s zero k h e = let (text, fine) = due-some (s .line) in (text, refl, fine)
     due-completed s (suc i) k h e = by-line (due? bad form s)
       where
-        by-line : Due bad form s → (text : List ℕ) × (firstLines (suc i) (s .bytes) ≡ firstLines (suc i) text) × Fine bad B (followed (due bad form) next) (s .line) text
+        by-line : Due bad form s
+            → (text : List ℕ) × (firstLines (suc i) (s .bytes) ≡ firstLines (suc i) text) × Fine bad B (followed (due bad form) next) (s .line) text
         by-line (is-bad d) = let p = one-place bad B named (s .line) k (rw d at e) in let z : ⊥ = omega arith in absurd z
         by-line (is-good l r a f g d) =
             let (rest, same, fine) = x a .completed (from (s .line + 1) r) i k (omega arith) (rw d at e) in
-            let (_, u) = line-first (s .bytes) (l, r) f in
-            (
+            let (_, u) = line-first (s .bytes) (l, r) f in (
               lineText l ++ rest,
               lines-some i (s .bytes) l r f ∙ ap (λ q. lineText l ++ q) same ∙ sym (lines-some i (lineText l ++ rest) l rest (first-line l rest u)),
               due-fine (s .line) l rest a u g fine,
@@ -67,7 +67,8 @@ module _ (bad : ℕ → Refusal) (B : Type 0) (named : (n : ℕ) → placeOf (ba
     completes-due = record { some-text = due-some; completed = due-completed }
 
   -- the end of a text
-  ended-completed : (r : Reply B) → ((k : ℕ) → r ≡ refused (bad k) → ⊥) → (s : Rest) (i k : ℕ) → k ≡ s .line + i → (ended bad s >>= λ _. r) ≡ refused (bad k)
+  ended-completed : (r : Reply B) → ((k : ℕ) → r ≡ refused (bad k) → ⊥) → (s : Rest) (i k : ℕ) → k ≡ s .line + i
+      → (ended bad s >>= λ _. r) ≡ refused (bad k)
       → (text : List ℕ) × (firstLines i (s .bytes) ≡ firstLines i text) × Fine bad B (λ s. ended bad s >>= λ _. r) (s .line) text
   unfolding firstLines
   ended-completed r good s zero k h e = ([], refl, good)

@@ -1,14 +1,13 @@
 -- A text of a header, a count and so many parts: the accepted texts are those printed for the values of such parts.
-use mathlib.Core.Path.{_≡_, refl, ap, sym, _∙_, subst}
+use mathlib.Core.Path.{_≡_, refl, _∙_}
 use mathlib.Core.Bool.{true}
-use mathlib.Core.List.{List, [], _∷_, _++_, flatMap, append-nil}
+use mathlib.Core.List.{List, [], _++_, flatMap, append-nil}
 use Prim.Native.Nat.{ℕ, _≤_}
 use Prim.Native.String.{String}
 use lib.ListN.{length}
-use Rattle.laws.specs.Lists.{null}
 use Rattle.laws.proofs.TextLists.{Each}
 use Rattle.database.specs.declared.Refusal.{Refusal}
-use Rattle.database.specs.Refusals.{Reply, refused, accepted, _>>=_}
+use Rattle.database.specs.Refusals.{Reply, accepted, _>>=_}
 use Rattle.text.specs.Numbers.{bytes, maxNumber, digits}
 use Rattle.text.specs.Lines.{Rest, due, many, ended, whole, headerLine, countLine}
 use Rattle.text.specs.Texts.{lineText}

@@ -1,4 +1,5 @@
--- Databases as texts: the accepted texts are exactly those printed for tables on the form, and each is read as the tables it was printed for.
+-- Databases as texts: the accepted texts are exactly those printed for tables on the form, and each is read as the tables that it was printed
+-- for.
 use mathlib.Core.Path.{_≡_, refl, subst}
 use mathlib.Core.Bool.{true}
 use mathlib.Core.List.{List}
@@ -10,7 +11,7 @@ use Rattle.laws.specs.Lists.{every}
 use Rattle.laws.proofs.TextLists.{Each}
 use Rattle.database.specs.declared.Refusal.the-variants.{DatabaseForm}
 use Rattle.database.specs.Stored.{tableLimit}
-use Rattle.database.specs.Refusals.{Reply, accepted}
+use Rattle.database.specs.Refusals.{accepted}
 use Rattle.database.proofs.Replies.{accepted-same}
 use Rattle.text.specs.Numbers.{bytes}
 use Rattle.text.specs.Texts.{Table, readTables, databaseText}
@@ -31,5 +32,6 @@ pub read-database-printed : (w : ℕ) (text : List ℕ) (ts : List Table) → re
     → (text ≡ databaseText ts) × (length ts ≤ tableLimit) × Each (GoodTable w) ts
 unfolding readTables databaseText
 read-database-printed w text ts e =
-    let (us, same, few, good, last) = counted-printed DatabaseForm "tables=" tableLimit tables-plain (table-exact w) (λ _ ts. accepted ts) text ts e in
+    let (us, same, few, good, last) =
+    counted-printed DatabaseForm "tables=" tableLimit tables-plain (table-exact w) (λ _ ts. accepted ts) text ts e in
     subst (λ ts. (text ≡ databaseText ts) × (length ts ≤ tableLimit) × Each (GoodTable w) ts) (accepted-same last) (same, few, good)

@@ -4,6 +4,7 @@ use mathlib.Core.Bool.{true}
 use mathlib.Core.Option.{Option, some, none}
 use mathlib.Core.List.{List, [], _∷_, _++_, flatMap, append-assoc, append-nil}
 use Prim.Native.Nat.{ℕ, zero, suc, _+_}
+use native.Mathlib.Omega.{arith}
 use lib.ListN.{length}
 use Rattle.laws.specs.Lists.{null}
 use Rattle.laws.proofs.Tests.{true-false}
@@ -93,33 +94,36 @@ abbrev pub Chain : {S A : Type 0} → (A → S) → (S → A → Type 0) → S �
 Chain next Good c [] = Unit {0}
 Chain next Good c (a ∷ l) = Good c a × Chain next Good (next a) l
 
-module _ {S A : Type 0} {part : S → Rest → Reply (A × Rest)} {next : A → S} {loop : ℕ → S → Rest → Reply (List A × Rest)} (again : Again part next loop)
-    {text : A → List ℕ} {Good : S → A → Type 0} (x : (c : S) → Exact (part c) text (Good c)) where
-  again-reads : (l : List A) (c : S) → Chain next Good c l → (k : ℕ) (rest : List ℕ)
-      → (m : ℕ) × (loop (length l) c (from k (flatMap text l ++ rest)) ≡ accepted (l, from m rest))
+module _ {S A : Type 0} {part : S → Rest → Reply (A × Rest)} {next : A → S} {loop : ℕ → S → Rest → Reply (List A × Rest)}
+    (again : Again part next loop) {text : A → List ℕ} {Good : S → A → Type 0} (x : (c : S) → Exact (part c) text (Good c)) where
+  again-reads : (l : List A) (n : ℕ) (c : S) → Chain next Good c l → length l ≡ n → (k : ℕ) (rest : List ℕ)
+      → (m : ℕ) × (loop n c (from k (flatMap text l ++ rest)) ≡ accepted (l, from m rest))
   unfolding flatMap
-  again-reads [] c h k rest = (k, again .end c (from k rest))
-  again-reads (a ∷ l) c (h, hs) k rest =
-      let (m, e) = x c .reads a h k (flatMap text l ++ rest) in
-      let (i, f) = again-reads l (next a) hs m rest in
-      (i, rw (append-assoc (text a) (flatMap text l) rest) (rw (again .more (length l) c) (rw e (rw f))))
+  again-reads [] zero c h e k rest = (k, again .end c (from k rest))
+  again-reads [] (suc n) c h e k rest = let z : ⊥ = omega arith in absurd z
+  again-reads (a ∷ l) zero c h e k rest = let z : ⊥ = omega arith in absurd z
+  again-reads (a ∷ l) (suc n) c (h, hs) e k rest =
+      let (m, f) = x c .reads a h k (flatMap text l ++ rest) in
+      let (i, g) = again-reads l n (next a) hs (omega arith) m rest in
+      (i, rw (append-assoc (text a) (flatMap text l) rest) (rw (again .more n c) (rw f (rw g))))
 
-  again-printed : (n : ℕ) (c : S) (s t : Rest) (l : List A) → loop n c s ≡ accepted (l, t)
-      → (s .bytes ≡ flatMap text l ++ t .bytes) × (Chain next Good c l × (length l ≡ n))
+  -- what was read from s, n times after c, is printed there and good
+  abbrev Printed : Rest → ℕ → S → List A × Rest → Type 0
+  Printed s n c (l, t) = (s .bytes ≡ flatMap text l ++ t .bytes) × (Chain next Good c l × (length l ≡ n))
+
+  again-printed : (n : ℕ) (c : S) (s t : Rest) (l : List A) → loop n c s ≡ accepted (l, t) → Printed s n c (l, t)
   unfolding flatMap
-  again-printed zero c s t l e =
-      let p = accepted-same (sym (again .end c s) ∙ e) in
-      subst (λ (q : List A × Rest). (s .bytes ≡ flatMap text (q .0) ++ q .1 .bytes) × (Chain next Good c (q .0) × (length (q .0) ≡ 0))) p (refl, (tt, refl))
+  again-printed zero c s t l e = subst (Printed s zero c) (accepted-same (sym (again .end c s) ∙ e)) (refl, (tt, refl))
   again-printed (suc n) c s t l e =
       bind-accepted (part c s) _ (sym (again .more n c s) ∙ e) λ (a, s₁) first others.
       bind-accepted (loop n (next a) s₁) _ others λ (m, s₂) rest last.
       let (b₁, good) = x c .printed s s₁ a first in
       let (b₂, (goods, count)) = again-printed n (next a) s₁ s₂ m rest in
-      subst (λ (q : List A × Rest). (s .bytes ≡ flatMap text (q .0) ++ q .1 .bytes) × (Chain next Good c (q .0) × (length (q .0) ≡ suc n))) (accepted-same last)
-      (b₁ ∙ ap (λ r. text a ++ r) b₂ ∙ sym (append-assoc (text a) (flatMap text m) (s₂ .bytes)), ((good, goods), ap suc count))
+      let same = b₁ ∙ ap (λ r. text a ++ r) b₂ ∙ sym (append-assoc (text a) (flatMap text m) (s₂ .bytes)) in
+      subst (Printed s (suc n) c) (accepted-same last) (same, ((good, goods), ap suc count))
 
   pub again-exact : (n : ℕ) (c : S) → Exact (loop n c) (flatMap text) (λ l. Chain next Good c l × (length l ≡ n))
-  again-exact n c = record { reads = λ l (h, e). subst (λ n. (k : ℕ) (rest : List ℕ) → (m : ℕ) × (loop n c (from k (flatMap text l ++ rest)) ≡ accepted (l, from m rest))) e (again-reads l c h); printed = again-printed n c }
+  again-exact n c = record { reads = λ l (h, e). again-reads l n c h e; printed = again-printed n c }
 
 -- the same part n times
 each-chain : {A : Type 0} (Good : A → Type 0) (l : List A) → Each Good l → Chain {S = Unit {0}} (λ _. tt) (λ _. Good) tt l

@@ -1,16 +1,16 @@
 -- Rows from values in columns, and back.
-use mathlib.Core.Path.{_≡_, refl, ap, ap₂, sym, _∙_, subst}
-use mathlib.Core.Bool.{Bool, true, false, _&&_, _||_}
+use mathlib.Core.Path.{_≡_, refl, ap₂, sym, _∙_}
+use mathlib.Core.Bool.{Bool, true, false}
 use mathlib.Core.Logic.{_⊎_, inl, inr, _≢_}
 use mathlib.Core.List.{List, [], _∷_, map}
-use Prim.Native.Nat.{ℕ, suc, _<_, _≤_}
+use Prim.Native.Nat.{ℕ, _<_}
 use native.Mathlib.Omega.{arith}
 use lib.Dec.{eqb, ltb}
-use lib.ListN.{length, getD, set, replicate, length-set, length-replicate, getD-replicate, List·getD-eq-default}
+use lib.ListN.{length, set, replicate, length-set, length-replicate}
 use lib.Seq.{getD-set-same, getD-set-other, ext-getD}
-use borrow.Author.Tests.{ltb-true, ltb-false, eqb-true, eqb-false, ne-eqb}
+use borrow.Author.Tests.{ltb-true, eqb-false, ne-eqb}
 use Rattle.laws.specs.Lists.{any, member, every}
-use Rattle.laws.proofs.Tests.{true-false, same?, or-false-left, or-false-right, and-true-left, and-true-right}
+use Rattle.laws.proofs.Tests.{true-false, same?, or-false-left, or-false-right, and-true-right}
 use Rattle.laws.proofs.TextLists.{both-true}
 use Rattle.relation.specs.Rows.{Row, slot}
 use Rattle.relation.proofs.Shows.{Shaped}

@@ -14,7 +14,7 @@ use Rattle.database.proofs.Replies.{accepted-refused, refused-same}
 use Rattle.query.specs.declared.Node.{Node}
 use Rattle.text.specs.Numbers.{maxNumber}
 use Rattle.text.specs.Lines.{Rest, due, countLine, nodeLine, colsLine, rowLine}
-use Rattle.text.specs.Texts.{Table, readRows, readTable, readNodes, readTables}
+use Rattle.text.specs.Texts.{Table, readTable, readNodes, readTables}
 use Rattle.text.proofs.Lines.{countTested}
 use Rattle.text.proofs.Tables.{rows-again}
 use Rattle.text.proofs.Carried.{carries-end, carries-then, carries-again}
@@ -33,7 +33,8 @@ pub first-bad-query-line : (w limit limit′ : ℕ) (text : List ℕ) (k : ℕ) 
     → FirstBad QueryForm (readNodes w limit′) text k
 unfolding readNodes
 first-bad-query-line w limit limit′ =
-    first-bad-counted QueryForm (λ n. refl) "nodes=" maxNumber (due QueryForm (nodeLine w)) (linewise-due QueryForm (List Node) (λ n. refl) (nodeLine w))
+    first-bad-counted QueryForm (λ n. refl) "nodes=" maxNumber (due QueryForm (nodeLine w))
+    (linewise-due QueryForm (List Node) (λ n. refl) (nodeLine w))
     (countTested limit) (countTested limit′) (count-no-line limit) (count-no-line limit′)
 
 table-linewise : (w : ℕ) → Linewise DatabaseForm (List Table) (readTable w)

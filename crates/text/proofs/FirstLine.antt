@@ -27,7 +27,8 @@ line-first [] p e = none-some e
 line-first (b ∷ text) p e = by-test (eqb b newline) refl (firstLine text) (line-first text) e
   where
     by-test : (t : Bool) → eqb b newline ≡ t → (o : Option (List ℕ × List ℕ)) → ((q : List ℕ × List ℕ) → o ≡ some q → Begins text q)
-        → _≡_ {A = Option (List ℕ × List ℕ)} (elim t [ true ↦ some ([], text) | false ↦ elim o [ none ↦ none | some q ↦ some (b ∷ q .0, q .1) ] ]) (some p)
+        → _≡_ {A = Option (List ℕ × List ℕ)}
+        (elim t [ true ↦ some ([], text) | false ↦ elim o [ none ↦ none | some q ↦ some (b ∷ q .0, q .1) ] ]) (some p)
         → Begins (b ∷ text) p
     by-test true h o f e = subst (Begins (b ∷ text)) (some-inj e) (ap (λ c. c ∷ text) (eqb-true b newline h), tt)
     by-test false h none f e = none-some e

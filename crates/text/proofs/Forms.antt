@@ -2,7 +2,7 @@
 use mathlib.Core.Path.{_≡_, refl, ap, sym, _∙_, subst}
 use mathlib.Core.Bool.{Bool, true, false, not, _&&_, _||_}
 use mathlib.Core.Option.{Option, some, none}
-use mathlib.Core.List.{List, [], _∷_, _++_, append-nil}
+use mathlib.Core.List.{List, [], _∷_, _++_}
 use Prim.Native.Nat.{ℕ}
 use Prim.Native.String.{String}
 use lib.Dec.{eqb}
@@ -44,7 +44,8 @@ other-key [] other l e = true-false (sym e)
 other-key (k ∷ key) [] l e = true-false (sym e)
 other-key (k ∷ key) (b ∷ other) l e = by-test (eqb k b) (other-key key other l) e
   where
-    by-test : (t : Bool) → (apart key other ≡ true → after key (other ++ l) ≡ none) → not t || apart key other ≡ true → (if t then after key (other ++ l) else none) ≡ none
+    by-test : (t : Bool) → (apart key other ≡ true → after key (other ++ l) ≡ none) → not t || apart key other ≡ true
+        → (if t then after key (other ++ l) else none) ≡ none
     by-test true f e = f e
     by-test false f e = refl
 
@@ -54,7 +55,8 @@ unfolding numbersAfter
 numbers-after key l [] h s e = true-false h
 numbers-after key l (n ∷ ns) h s e = rw (← e) (rw (after-key (bytes key) (commaDigits (n ∷ ns)), numbersAfter) (numbers-digits n ns s))
 
-pub after-numbers : (key : String) (l ns : List ℕ) → numbersAfter key l ≡ some ns → (bytes key ++ commaDigits ns ≡ l) × (null ns ≡ false) × AllSmall ns
+pub after-numbers : (key : String) (l ns : List ℕ) → numbersAfter key l ≡ some ns
+    → (bytes key ++ commaDigits ns ≡ l) × (null ns ≡ false) × AllSmall ns
 unfolding numbersAfter
 after-numbers key l ns e = by-rest (after (bytes key) l) refl e
   where
@@ -115,14 +117,16 @@ module _ {A : Type 0} where
   read-printed (two s f) a l p =
       rw (numbers-after s l (p .ns) (filled-value (λ ns. ifTwo f (some ns)) (p .ns) a refl (p .value)) (p .small) (p .line)) (p .value)
 
-  behind-key : (key : String) (g : Option (List ℕ) → Option A) (a : A) (l : List ℕ) → g none ≡ none → g (numbersAfter key l) ≡ some a
-      → (ns : List ℕ) × AllSmall ns × (g (some ns) ≡ some a) × (bytes key ++ commaDigits ns ≡ l)
-  behind-key key g a l z e = by-numbers (numbersAfter key l) refl e
+  -- a form with numbers behind its key
+  behind-key : (form : Form A) (g : Option (List ℕ) → Option A) (a : A) (l : List ℕ) → g none ≡ none → ((ns : List ℕ) → g (some ns) ≡ valueOf form ns)
+      → g (numbersAfter (keyOf form) l) ≡ some a → Prints form a l
+  behind-key form g a l z v e = by-numbers (numbersAfter (keyOf form) l) refl e
     where
-      by-numbers : (o : Option (List ℕ)) → numbersAfter key l ≡ o → g o ≡ some a
-          → (ns : List ℕ) × AllSmall ns × (g (some ns) ≡ some a) × (bytes key ++ commaDigits ns ≡ l)
+      by-numbers : (o : Option (List ℕ)) → numbersAfter (keyOf form) l ≡ o → g o ≡ some a → Prints form a l
       by-numbers none q e = none-some (sym z ∙ e)
-      by-numbers (some ns) q e = let (line, _, small) = after-numbers key l ns q in (ns, small, e, line)
+      by-numbers (some ns) q e =
+          let (line, _, small) = after-numbers (keyOf form) l ns q in
+          record { ns = ns; small = small; value = sym (v ns) ∙ e; line = line }
 
   pub printed-read : (form : Form A) (a : A) (l : List ℕ) → byForm form l ≡ some a → Prints form a l
   unfolding byForm commaDigits
@@ -132,8 +136,8 @@ module _ {A : Type 0} where
       by-rest none q e = none-some e
       by-rest (some []) q e = record { ns = []; small = tt; value = e; line = sym (key-after (bytes s) l [] q) }
       by-rest (some (c ∷ m)) q e = none-some e
-  printed-read (one s f) a l e = let (ns, small, value, line) = behind-key s (ifOne f) a l refl e in record { ns = ns; small = small; value = value; line = line }
-  printed-read (two s f) a l e = let (ns, small, value, line) = behind-key s (ifTwo f) a l refl e in record { ns = ns; small = small; value = value; line = line }
+  printed-read (one s f) a l e = behind-key (one s f) (ifOne f) a l refl (λ ns. refl) e
+  printed-read (two s f) a l e = behind-key (two s f) (ifTwo f) a l refl (λ ns. refl) e
 
   pub prints-unbroken : (form : Form A) (a : A) (l : List ℕ) → plain (bytes (keyOf form)) ≡ true → Prints form a l → Without newline l
   prints-unbroken form a l p q = subst (Without newline) (q .line) (key-numbers-unbroken (keyOf form) p (q .ns))
@@ -157,7 +161,8 @@ module _ {A : Type 0} where
       rw (← p .line) (other-form f (bytes (keyOf g)) (commaDigits (p .ns)) (both-true (apart (bytes (keyOf f)) (bytes (keyOf g))) _ e .0))
   later-form f (g ∷ forms) a l e (later p) = later-form f forms a l (both-true (apart (bytes (keyOf f)) (bytes (keyOf g))) _ e .1) p
 
-  pub read-by-forms : (forms : List (Form A)) (a : A) (l : List ℕ) → keysApart forms ≡ true → Some (λ f. Prints f a l) forms → byForms forms l ≡ some a
+  pub read-by-forms : (forms : List (Form A)) (a : A) (l : List ℕ) → keysApart forms ≡ true → Some (λ f. Prints f a l) forms
+      → byForms forms l ≡ some a
   unfolding byForms keysApart
   read-by-forms (f ∷ forms) a l e (first p) = rw (read-printed f a l p, byForms)
   read-by-forms (f ∷ forms) a l e (later p) =

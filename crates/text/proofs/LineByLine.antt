@@ -1,15 +1,15 @@
 -- Readers that go line by line: where one refuses depends on the lines up to there only.
-use mathlib.Core.Path.{_≡_, refl, ap, sym, _∙_, subst}
+use mathlib.Core.Path.{_≡_, refl, ap, sym, _∙_}
 use mathlib.Core.Bool.{Bool, true, false}
 use mathlib.Core.Option.{Option, some, none}
-use mathlib.Core.List.{List, [], _∷_, _++_}
-use Prim.Native.Nat.{ℕ, zero, suc, _+_, _≤_, _<_}
+use mathlib.Core.List.{List}
+use Prim.Native.Nat.{ℕ, zero, suc, _+_, _≤_}
 use native.Mathlib.Omega.{arith}
 use Rattle.laws.specs.Lists.{null}
 use Rattle.laws.proofs.Lists.{count}
 use Rattle.database.specs.declared.Refusal.{Refusal}
 use Rattle.database.specs.Refusals.{Reply, refused, accepted, require, placeOf, _>>=_}
-use Rattle.database.proofs.Replies.{accepted-refused, refused-same}
+use Rattle.database.proofs.Replies.{refused-same}
 use Rattle.text.specs.Numbers.{newline}
 use Rattle.text.specs.Lines.{Rest, firstLine, due, ended}
 use Rattle.text.proofs.Exact.{from}
@@ -44,7 +44,8 @@ module _ (bad : ℕ → Refusal) {A : Type 0} (form : List ℕ → Option A) (s 
 
   pub data Due : Type 0 where
     is-bad : due bad form s ≡ refused (bad (s .line)) → Due
-    is-good : (l r : List ℕ) (a : A) → firstLine (s .bytes) ≡ some (l, r) → form l ≡ some a → due bad form s ≡ accepted (a, from (s .line + 1) r) → Due
+    is-good : (l r : List ℕ) (a : A) → firstLine (s .bytes) ≡ some (l, r) → form l ≡ some a
+        → due bad form s ≡ accepted (a, from (s .line + 1) r) → Due
 
   pub due? : Due
   due? = by-line (firstLine (s .bytes)) refl
@@ -76,7 +77,8 @@ module _ (bad : ℕ → Refusal) (B : Type 0) (named : (n : ℕ) → placeOf (ba
         → followed (due bad form) next s ≡ refused (bad k) → followed (due bad form) next′ t ≡ refused (bad k)
     due-same s t i k h n f e = by-first (same-first i (s .bytes) (t .bytes) f)
       where
-        at-once : due bad form s ≡ refused (bad (s .line)) → due bad form t ≡ refused (bad (t .line)) → followed (due bad form) next′ t ≡ refused (bad k)
+        at-once : due bad form s ≡ refused (bad (s .line)) → due bad form t ≡ refused (bad (t .line))
+            → followed (due bad form) next′ t ≡ refused (bad k)
         at-once d d′ = rw d′ (ap (λ m. refused (bad m)) (sym n ∙ one-place (s .line) k (rw d at e)))
 
         later : (i : ℕ) → k ≡ s .line + i → (r q : List ℕ) (a : A) → firstLines i r ≡ firstLines i q
@@ -101,7 +103,8 @@ module _ (bad : ℕ → Refusal) (B : Type 0) (named : (n : ℕ) → placeOf (ba
     pub left-over : (s : Rest) (k : ℕ) → (ended bad s >>= λ _. r) ≡ refused (bad k) → (null (s .bytes) ≡ false) × (s .line ≡ k)
     left-over s k e = by-test (null (s .bytes)) refl e
       where
-        by-test : (t : Bool) → null (s .bytes) ≡ t → (require t (bad (s .line)) >>= λ _. r) ≡ refused (bad k) → (null (s .bytes) ≡ false) × (s .line ≡ k)
+        by-test : (t : Bool) → null (s .bytes) ≡ t → (require t (bad (s .line)) >>= λ _. r) ≡ refused (bad k)
+            → (null (s .bytes) ≡ false) × (s .line ≡ k)
         by-test true n e = absurd (good k e)
         by-test false n e = (n, one-place (s .line) k e)
 

@@ -1,7 +1,7 @@
 -- The lines of a query's text are read exactly.
-use mathlib.Core.Path.{_≡_, refl, ap, sym, _∙_, subst}
+use mathlib.Core.Path.{_≡_, refl, sym, _∙_, subst}
 use mathlib.Core.Bool.{true, _&&_}
-use mathlib.Core.Option.{Option, some, none}
+use mathlib.Core.Option.{some}
 use mathlib.Core.List.{List, [], _∷_, _++_, append-nil}
 use Prim.Native.Nat.{ℕ, _≤_}
 use Prim.Native.String.{String}
@@ -16,7 +16,7 @@ use Rattle.query.specs.Lines.{onForm}
 use Rattle.text.specs.Numbers.{bytes, maxNumber, digits, commaDigits}
 use Rattle.text.specs.Lines.{word, one, byForm, headerLine, countLine, nodeLine, nodeText}
 use Rattle.text.proofs.NumberLists.{AllSmall}
-use Rattle.text.proofs.Forms.{valueOf, Prints, plain, plain-unbroken, key-numbers-unbroken, read-printed, printed-read, in-range, range-in}
+use Rattle.text.proofs.Forms.{valueOf, plain, plain-unbroken, key-numbers-unbroken, read-printed, printed-read, in-range, range-in}
 use Rattle.text.proofs.NodeForms.{Small, node-unbroken}
 use Rattle.text.proofs.NodeLines.{node-line, line-node}
 use Rattle.text.proofs.Exact.{ExactLine}
@@ -35,7 +35,8 @@ node-exact w = record {
 pub header-exact : ExactLine headerLine (λ _. bytes "guide=1") (λ _. Unit {0})
 unfolding commaDigits plain every bytes
 header-exact = record {
-  reads = λ _ _. read-printed (word "guide=1" tt) tt (bytes "guide=1") (record { ns = []; small = tt; value = refl; line = append-nil (bytes "guide=1") });
+  reads = λ _ _.
+      read-printed (word "guide=1" tt) tt (bytes "guide=1") (record { ns = []; small = tt; value = refl; line = append-nil (bytes "guide=1") });
   unbroken = λ _ _. plain-unbroken (bytes "guide=1") refl;
   printed = λ l _ e. let p = printed-read (word "guide=1" tt) tt l e in (alone l (p .ns) (p .value) (p .line), tt);
 }
@@ -45,12 +46,14 @@ header-exact = record {
     alone l (n ∷ ns) v e = none-some v
 
 -- a key and one number, at most so much
-pub count-exact : (key : String) (most : ℕ) → plain (bytes key) ≡ true → ExactLine (countLine key most) (λ n. bytes key ++ digits n) (λ n. (n ≤ most) × (n ≤ maxNumber))
+pub count-exact : (key : String) (most : ℕ) → plain (bytes key) ≡ true
+    → ExactLine (countLine key most) (λ n. bytes key ++ digits n) (λ n. (n ≤ most) × (n ≤ maxNumber))
 unfolding commaDigits
 count-exact key most p = record {
   reads = λ n (h, s).
       range-in (λ n. leb n most) (byForm (one key (λ n. n)) (bytes key ++ digits n)) n
-      (read-printed (one key (λ n. n)) n (bytes key ++ digits n) (record { ns = n ∷ []; small = (s, tt); value = refl; line = refl })) (le-leb n most h);
+      (read-printed (one key (λ n. n)) n (bytes key ++ digits n) (record { ns = n ∷ []; small = (s, tt); value = refl; line = refl }))
+      (le-leb n most h);
   unbroken = λ n _. key-numbers-unbroken key p (n ∷ []);
   printed = λ l n e.
       let (read, low) = in-range (λ n. leb n most) (byForm (one key (λ n. n)) l) n e in

@@ -11,13 +11,13 @@ use Rattle.database.specs.Refusals.{Reply, refused}
 use Rattle.query.specs.declared.Node.{Node}
 use Rattle.query.specs.declared.Node.the-variants.{Table}
 use Rattle.text.specs.Numbers.{maxNumber}
-use Rattle.text.specs.Lines.{Rest, whole, due, headerLine, countLine, nodeLine}
+use Rattle.text.specs.Lines.{Rest, whole, due, nodeLine}
 use Rattle.text.specs.Texts.{readNodes}
 use Rattle.text.proofs.Exact.{ExactLine, many-again}
 use Rattle.text.proofs.Counted.{countedFrom}
 use Rattle.text.proofs.Lines.{header-exact, count-exact, node-exact, nodes-plain, countTested}
-use Rattle.text.proofs.Carried.{followed, Carries, carries-again}
-use Rattle.text.proofs.FirstBad.{firstLines, FirstBad}
+use Rattle.text.proofs.Carried.{followed, carries-again}
+use Rattle.text.proofs.FirstBad.{firstLines}
 use Rattle.text.proofs.FirstBadLine.{first-bad-query-line, count-no-line}
 use Rattle.text.proofs.Completed.{Completes, Completing, completes-then, completes-due, completes-ended}
 
@@ -28,7 +28,8 @@ line {form = form} {text = text} x a h = record {
   carried = λ next _ y. completes-due QueryForm (List Node) (λ n. refl) form (text a) a (x .unbroken a h) (x .reads a h) next y;
 }
 
-query-completes : (w limit : ℕ) → Completes QueryForm (List Node) (countedFrom QueryForm "nodes=" maxNumber (due QueryForm (nodeLine w)) (countTested limit))
+query-completes : (w limit : ℕ)
+    → Completes QueryForm (List Node) (countedFrom QueryForm "nodes=" maxNumber (due QueryForm (nodeLine w)) (countTested limit))
 query-completes w limit =
     after (line header-exact tt tt) _ λ _.
     after (line (count-exact "nodes=" maxNumber nodes-plain) 0 (lit≤ tt, lit≤ tt)) _ λ n.

@@ -45,11 +45,34 @@ Fits (two key f) = (n m : ℕ) → (nodeText (f n m) ≡ bytes key ++ commaDigit
 
 table-fits : Each Fits nodeForms
 unfolding nodeText
-table-fits =
-    (λ n. (refl, refl), (λ n. (refl, refl), (λ n m. (refl, refl),
-    ((refl, refl), ((refl, refl), ((refl, refl),
-    (λ n m. (refl, refl), (λ n m. (refl, refl), (λ n m. (refl, refl),
-    (λ n m. (refl, refl), (λ n m. (refl, refl), (λ n. (refl, refl), (λ n. (refl, refl), tt)))))))))))))
+table-fits = (
+  λ n. (refl, refl),
+  (
+    λ n. (refl, refl),
+    (
+      λ n m. (refl, refl),
+      (
+        (refl, refl),
+        (
+          (refl, refl),
+          (
+            (refl, refl),
+            (
+              λ n m. (refl, refl),
+              (
+                λ n m. (refl, refl),
+                (
+                  λ n m. (refl, refl),
+                  (λ n m. (refl, refl), (λ n m. (refl, refl), (λ n. (refl, refl), (λ n. (refl, refl), tt)))),
+                ),
+              ),
+            ),
+          ),
+        ),
+      ),
+    ),
+  ),
+)
 
 abbrev Made : Form Node → List ℕ → Node → Type 0
 Made form ns n = (nodeText n ≡ bytes (keyOf form) ++ commaDigits ns) × (numbersOf n ≡ ns)

@@ -55,7 +55,8 @@ read-all (l ∷ ls) ns e = first (number l) refl (readAll ls) (read-all ls) e
     first (some n) p none f e = none-some e
     first (some n) p (some ms) f e = subst (λ ns. Parts (l ∷ ls) ns) (some-inj e) (digits-number l n p, f ms refl)
 
-parts-joined : (l : List ℕ) (ls : List (List ℕ)) (ns : List ℕ) → Parts (l ∷ ls) ns → (commaDigits ns ≡ joined (l ∷ ls)) × (null ns ≡ false) × AllSmall ns
+parts-joined : (l : List ℕ) (ls : List (List ℕ)) (ns : List ℕ) → Parts (l ∷ ls) ns
+    → (commaDigits ns ≡ joined (l ∷ ls)) × (null ns ≡ false) × AllSmall ns
 unfolding commaDigits joined
 parts-joined l ls [] p = absurd p
 parts-joined l [] (n ∷ []) ((d, h), _) = (d, refl, (h, tt))

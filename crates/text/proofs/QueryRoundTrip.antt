@@ -1,19 +1,17 @@
 -- Queries as texts: the accepted texts are exactly those printed for queries on the form, and each is read as the query it was printed for.
-use mathlib.Core.Path.{_≡_, refl, subst}
-use mathlib.Core.Bool.{true, _&&_}
+use mathlib.Core.Path.{_≡_, subst}
+use mathlib.Core.Bool.{_&&_}
 use mathlib.Core.List.{List}
 use Prim.Native.Nat.{ℕ, _≤_}
 use lib.Dec.{leb}
 use lib.ListN.{length}
 use borrow.Author.Tests.{leb-true, le-leb}
-use Rattle.laws.proofs.Tests.{and-true}
 use Rattle.laws.proofs.TextLists.{Each, both-true}
 use Rattle.database.specs.declared.Refusal.the-variants.{QueryForm, NodeCount}
-use Rattle.database.specs.Refusals.{Reply, accepted, require, _>>=_}
+use Rattle.database.specs.Refusals.{accepted, require}
 use Rattle.database.proofs.Replies.{accepted-same}
 use Rattle.query.specs.declared.Node.{Node}
-use Rattle.text.specs.Numbers.{bytes, maxNumber}
-use Rattle.text.specs.Lines.{nodeLine}
+use Rattle.text.specs.Numbers.{maxNumber}
 use Rattle.text.specs.Texts.{readNodes, queryText}
 use Rattle.text.proofs.ReplyLaws.{bind-accepted, required}
 use Rattle.text.proofs.Exact.{due-exact}
@@ -31,7 +29,8 @@ pub read-printed : (w limit : ℕ) (text : List ℕ) (ns : List Node) → readNo
     → (text ≡ queryText ns) × (1 ≤ length ns) × (length ns ≤ limit) × Each (GoodNode w) ns
 unfolding readNodes queryText
 read-printed w limit text ns e =
-    let (ms, same, _, good, last) = counted-printed QueryForm "nodes=" maxNumber nodes-plain (due-exact QueryForm (node-exact w)) (countTested limit) text ns e in
+    let (ms, same, _, good, last) =
+    counted-printed QueryForm "nodes=" maxNumber nodes-plain (due-exact QueryForm (node-exact w)) (countTested limit) text ns e in
     bind-accepted (require (leb 1 (length ms) && leb (length ms) limit) (NodeCount 2)) _ last λ _ range read.
     let (low, high) = both-true (leb 1 (length ms)) (leb (length ms) limit) (required _ _ tt range) in
     subst (λ ns. (text ≡ queryText ns) × (1 ≤ length ns) × (length ns ≤ limit) × Each (GoodNode w) ns) (accepted-same read)

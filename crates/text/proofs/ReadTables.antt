@@ -1,9 +1,9 @@
 -- Tables on the form, as a stored database, pass its test.
 use mathlib.Core.Path.{_≡_, refl, ap, sym, _∙_, subst, subst₂}
-use mathlib.Core.Bool.{Bool, true, false, not, _&&_, _||_}
+use mathlib.Core.Bool.{Bool, true, false, not, _||_}
 use mathlib.Core.List.{List, _++_}
 use Prim.Native.Nat.{ℕ, _+_, _*_, _≤_, _<_}
-use lib.Dec.{eqb, leb, ltb}
+use lib.Dec.{eqb, ltb}
 use lib.ListN.{length, getD}
 use borrow.Author.Tests.{ltb-true, le-leb, eq-eqb}
 use Rattle.laws.specs.Lists.{null, member, all, every}
@@ -14,10 +14,10 @@ use Rattle.algebra.specs.Columns.{Cols}
 use Rattle.relation.specs.Rows.{Row, Rows, slot, absentZero, ascend}
 use Rattle.relation.proofs.Shows.{Shaped}
 use Rattle.database.specs.Refusals.{accepted}
-use Rattle.database.specs.Stored.{tableLimit, rowsLimit, tableCols, rowCount, tableStart, tableRows, tableOk, checkDatabase}
+use Rattle.database.specs.Stored.{tableLimit, rowsLimit, rowCount, tableStart, tableOk, checkDatabase}
 use Rattle.database.proofs.Stored.{checkDatabase-iff}
-use Rattle.text.specs.Texts.{Table, columnList, databaseValue, tableEntries}
-use Rattle.text.proofs.RowLines.{GoodColumns, GoodRow}
+use Rattle.text.specs.Texts.{Table, databaseValue, tableEntries}
+use Rattle.text.proofs.RowLines.{GoodColumns}
 use Rattle.text.proofs.Tables.{GoodTable}
 use Rattle.text.proofs.ColumnLists.{columns-null, columns-own}
 use Rattle.text.proofs.StoredValues.{noTable, Fits, value-cols, value-count, value-rows, value-room}

@@ -5,7 +5,8 @@ use Rattle.database.specs.declared.Refusal.{Refusal}
 use Rattle.database.specs.Refusals.{Reply, refused, accepted, require, _>>=_}
 use Rattle.database.proofs.Replies.{accepted-refused}
 
-pub bind-accepted : {A B C : Type 0} (x : Reply A) (f : A → Reply B) {b : B} → (x >>= f) ≡ accepted b → ((a : A) → x ≡ accepted a → f a ≡ accepted b → C) → C
+pub bind-accepted : {A B C : Type 0} (x : Reply A) (f : A → Reply B) {b : B} → (x >>= f) ≡ accepted b
+    → ((a : A) → x ≡ accepted a → f a ≡ accepted b → C) → C
 bind-accepted (refused r) f e g = accepted-refused (sym e)
 bind-accepted (accepted a) f e g = g a refl e
 

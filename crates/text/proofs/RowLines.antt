@@ -1,20 +1,20 @@
 -- The lines `cols=` and `row=` are read exactly.
 use mathlib.Core.Path.{_≡_, refl, ap, sym, _∙_, subst}
-use mathlib.Core.Bool.{Bool, true, false, _&&_}
+use mathlib.Core.Bool.{true, false, _&&_}
 use mathlib.Core.Option.{Option, some, none}
-use mathlib.Core.List.{List, [], _∷_, _++_, map, flatMap}
-use Prim.Native.Nat.{ℕ, _≤_, _<_}
+use mathlib.Core.List.{List, [], _∷_, _++_, map}
+use Prim.Native.Nat.{ℕ}
 use lib.Dec.{eqb, ltb}
 use lib.ListN.{length, replicate, length-map, length-replicate}
 use borrow.Author.Tests.{eq-eqb, eqb-true}
-use Rattle.laws.specs.Lists.{if_then_else_, every, member, null}
+use Rattle.laws.specs.Lists.{every, member, null}
 use Rattle.laws.proofs.Options.{none-some}
 use Rattle.laws.proofs.Tests.{and-true}
-use Rattle.laws.proofs.TextLists.{Each, both-true, kept}
-use Rattle.relation.specs.Rows.{Row, Rows, slot, ordered, isLess, ascend}
+use Rattle.laws.proofs.TextLists.{both-true, kept}
+use Rattle.relation.specs.Rows.{Row, slot}
 use Rattle.relation.proofs.Shows.{Shaped}
 use Rattle.text.specs.Numbers.{bytes, commaDigits}
-use Rattle.text.specs.Lines.{numbersAfter, inRange, ascending, colsLine, filled, follows, rowOf, rowLine}
+use Rattle.text.specs.Lines.{numbersAfter, ascending, colsLine, filled, follows, rowOf, rowLine}
 use Rattle.text.proofs.NumberLists.{AllSmall}
 use Rattle.text.proofs.Forms.{plain, key-numbers-unbroken, numbers-after, after-numbers, in-range, range-in}
 use Rattle.text.proofs.Filled.{filled-length, filled-other, filled-slots, zeros-zero, filled-own}
@@ -95,4 +95,8 @@ module _ (w : ℕ) (cs : List ℕ) (g : GoodColumns w cs) (above : Option Row) w
       )
 
   pub row-exact : ExactLine (rowLine w cs above) (λ r. bytes "row=" ++ commaDigits (map (slot r) cs)) (λ r. GoodRow w cs r × (follows above r ≡ true))
-  row-exact = record { reads = λ r (h, f). row-read r h f; unbroken = λ r _. key-numbers-unbroken "row=" row-plain (map (slot r) cs); printed = row-printed }
+  row-exact = record {
+    reads = λ r (h, f). row-read r h f;
+    unbroken = λ r _. key-numbers-unbroken "row=" row-plain (map (slot r) cs);
+    printed = row-printed;
+  }

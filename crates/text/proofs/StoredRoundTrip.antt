@@ -1,22 +1,20 @@
 -- Stored databases and texts: what is printed of a stored database that passes its test is read as its tables, and what is read is a stored
 -- database that passes its test and whose tables are those read.
-use mathlib.Core.Path.{_≡_, refl, ap, sym, _∙_}
-use mathlib.Core.Bool.{true}
+use mathlib.Core.Path.{_≡_, ap, sym, _∙_}
 use mathlib.Core.List.{List, _++_}
 use Prim.Native.Nat.{ℕ, _≤_, _<_}
-use lib.ListN.{length, take}
-use Rattle.laws.proofs.TextLists.{Each, each-map}
+use lib.ListN.{take}
+use Rattle.laws.proofs.TextLists.{each-map}
 use Rattle.database.specs.declared.Database.{Database}
 use Rattle.database.specs.Refusals.{accepted}
 use Rattle.database.specs.Stored.{schema, tableStart, tableRows, checkDatabase}
 use Rattle.text.specs.Numbers.{maxNumber}
 use Rattle.text.specs.Texts.{Table, readTables, databaseValue, tableEntries, storedTables, databaseText}
 use Rattle.text.proofs.NumberLists.{AllSmall}
-use Rattle.text.proofs.Tables.{GoodTable}
 use Rattle.text.proofs.DatabaseRoundTrip.{database-round-trip, read-database-printed}
 use Rattle.text.proofs.ReadTables.{all-fit, value-checked}
 use Rattle.text.proofs.StoredTables.{stored-good, stored-value-schema, stored-value-rows, stored-front}
-use Rattle.text.proofs.StoredValues.{Fits, value-tables}
+use Rattle.text.proofs.StoredValues.{value-tables}
 
 -- tables as a stored database are those of d and its store
 pub record SameStored (w : ℕ) (d : Database) (store : List ℕ) (ts : List Table) : Type 0 where

@@ -1,6 +1,6 @@
 -- The tables of a stored database that passes its test can be printed and read.
 use mathlib.Core.Path.{_≡_, refl, ap, ap₂, sym, _∙_, subst, fun-ext}
-use mathlib.Core.Bool.{Bool, true, false, not, _&&_}
+use mathlib.Core.Bool.{true, false, not, _&&_}
 use mathlib.Core.List.{List, [], _∷_, _++_, map, flatMap, append-nil}
 use Prim.Native.Nat.{ℕ, zero, suc, _+_, _*_, _≤_, _<_}
 use native.Mathlib.Omega.{arith}
@@ -9,10 +9,10 @@ use lib.Dec.{leb, ltb}
 use lib.ListN.{length, getD, take, drop}
 use lib.Seq.{take-add}
 use borrow.Author.Tests.{leb-true, lt-ltb, le-ltb}
-use Rattle.laws.specs.Lists.{null, member, all, every, tabulate}
+use Rattle.laws.specs.Lists.{member, all, every, tabulate}
 use Rattle.laws.proofs.Tests.{not-false}
 use Rattle.laws.proofs.RowLists.{length-tabulate, getD-tabulate}
-use Rattle.laws.proofs.TextLists.{Each, each-map, each-append, each-every, both-true, flatMap-append}
+use Rattle.laws.proofs.TextLists.{Each, each-map, each-both, each-tabulate, each-every, both-true, flatMap-append}
 use Rattle.algebra.specs.Columns.{Cols}
 use Rattle.relation.specs.Rows.{Row, Rows, slot, In, here, there, rowsOf, entries, absentZero, ascend}
 use Rattle.relation.proofs.Shows.{Shaped}
@@ -28,7 +28,7 @@ use Rattle.text.proofs.RowLines.{GoodColumns, GoodRow}
 use Rattle.text.proofs.Tables.{GoodTable}
 use Rattle.text.proofs.ColumnLists.{columns-null, columns-ascend, columns-member}
 use Rattle.text.proofs.Entries.{rowsOf-length, entries-rowsOf}
-use Rattle.text.proofs.StoredValues.{noTable, Fits, value-cols, value-rows}
+use Rattle.text.proofs.StoredValues.{noTable, storedTable, Fits, value-cols, value-rows}
 
 -- small entries: of a part, and of a row's slots
 small-drop : (n : ℕ) (l : List ℕ) → AllSmall l → AllSmall (drop n l)
@@ -58,15 +58,6 @@ small-rows w (suc k) xs h = (small-take w xs h, small-rows w k (drop w xs) (smal
 each-in : {P : Row → Type 0} (rows : Rows) → ((r : Row) → In r rows → P r) → Each P rows
 each-in [] f = tt
 each-in (r ∷ rows) f = (f r here, each-in rows (λ s h. f s (there h)))
-
-each-both : {A : Type 0} {P Q R : A → Type 0} (l : List A) → ((a : A) → P a → Q a → R a) → Each P l → Each Q l → Each R l
-each-both [] f h k = tt
-each-both (a ∷ l) f (h, hs) (k, ks) = (f a h k, each-both l f hs ks)
-
-each-tabulate : {A : Type 0} (P : A → Type 0) (f : ℕ → A) (n : ℕ) → ((t : ℕ) → t < n → P (f t)) → Each P (tabulate f n)
-unfolding tabulate
-each-tabulate P f zero h = tt
-each-tabulate P f (suc n) h = each-append P (tabulate f n) (f n ∷ []) (each-tabulate P f n (λ t k. h t (omega arith))) (h n (omega arith), tt)
 
 -- a table that isn't in the book has no columns
 outside : (w : ℕ) (d : Database) (t : ℕ) → d .tables ≤ t → tableCols w d t ≡ (λ _. false)
@@ -116,7 +107,7 @@ module _ (w : ℕ) (d : Database) (store : List ℕ) where
     stored-ok : (t : ℕ) → t < d .tables → tableOk w d store t ≡ true
     stored-ok = checkDatabase-iff w d store .0 checked .1
 
-    stored-table : w ≤ maxNumber → AllSmall store → (t : ℕ) → t < d .tables → GoodTable w (record { columns = columnList w (tableCols w d t); rows = tableRows w d store t })
+    stored-table : w ≤ maxNumber → AllSmall store → (t : ℕ) → t < d .tables → GoodTable w (storedTable w d store t)
     stored-table wide small t h =
         let ok = stored-ok t h in
         record {
@@ -140,7 +131,7 @@ module _ (w : ℕ) (d : Database) (store : List ℕ) where
           sized = each-in (tableRows w d store t) (λ r i. table-shows w d store t (stored-ok t h) .shaped r i .slots);
         }
 
-    stored-at : (t : ℕ) → t < d .tables → getD (storedTables w d store) t noTable ≡ record { columns = columnList w (tableCols w d t); rows = tableRows w d store t }
+    stored-at : (t : ℕ) → t < d .tables → getD (storedTables w d store) t noTable ≡ storedTable w d store t
     stored-at t h = getD-tabulate _ (d .tables) t noTable h
 
     -- as a database again: the same columns and rows
@@ -153,7 +144,8 @@ module _ (w : ℕ) (d : Database) (store : List ℕ) where
     stored-value-cols t = elim (decLt t (d .tables)) [
       | yes h ↦ value-cols w (storedTables w d store) stored-fits t (rw (length-tabulate _ (d .tables)) h)
           ∙ ap {B = Cols} (λ (t : Table). λ c. member c (t .columns)) (stored-at t h) ∙ sym (stored-member t)
-      | no h ↦ outside w (databaseValue w (storedTables w d store)) t (rw (length-tabulate _ (d .tables)) (omega arith)) ∙ sym (outside w d t (omega arith))
+      | no h ↦ outside w (databaseValue w (storedTables w d store)) t (rw (length-tabulate _ (d .tables)) (omega arith))
+          ∙ sym (outside w d t (omega arith))
     ]
 
     pub stored-value-schema : schema w (databaseValue w (storedTables w d store)) ≡ schema w d
@@ -163,7 +155,7 @@ module _ (w : ℕ) (d : Database) (store : List ℕ) where
         λ i. record { width = w; tables = tables i; columns = columns i }
 
   -- the entries of the tables are the front of the store
-  front : (n : ℕ) → tableEntries (tabulate (λ t. record { columns = columnList w (tableCols w d t); rows = tableRows w d store t }) n) ≡ take (tableStart w d n) store
+  front : (n : ℕ) → tableEntries (tabulate (storedTable w d store) n) ≡ take (tableStart w d n) store
   unfolding tabulate tableStart flatMap
   front zero = refl
   front (suc n) =

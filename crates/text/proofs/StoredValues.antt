@@ -1,19 +1,17 @@
 -- Tables as a stored database: its columns, row counts and rows are those of the tables.
-use mathlib.Core.Path.{_≡_, refl, ap, ap₂, sym, _∙_, subst, fun-ext}
-use mathlib.Core.Bool.{Bool, true, false, not, _&&_, _||_}
+use mathlib.Core.Path.{_≡_, refl, ap, ap₂, sym, _∙_, fun-ext}
+use mathlib.Core.Bool.{true}
 use mathlib.Core.List.{List, [], _∷_, _++_, map, flatMap, append-assoc, append-nil}
-use Prim.Native.Nat.{ℕ, zero, suc, _+_, _-_, _*_, _≤_, _<_}
+use Prim.Native.Nat.{ℕ, zero, suc, _+_, _*_, _≤_, _<_}
 use native.Mathlib.Omega.{arith}
-use lib.Dec.{leb, ltb}
-use lib.ListN.{length, getD, take, drop, replicate, length-append, length-map, List·getD-append}
-use lib.Seq.{take-suc, split-at, drop-at, length-take-le, take-length, ext-getD}
+use lib.ListN.{length, getD, take, drop, length-append, length-map, List·getD-append}
+use lib.Seq.{take-suc, split-at, drop-at, ext-getD}
 use borrow.Author.Tests.{lt-ltb}
-use Rattle.laws.specs.Lists.{member, tabulate}
+use Rattle.laws.specs.Lists.{member}
 use Rattle.laws.proofs.RowLists.{length-tabulate, getD-tabulate}
-use Rattle.laws.proofs.TextLists.{Each, each-map, each-at, each-of-member, getD-map, flatMap-append}
+use Rattle.laws.proofs.TextLists.{Each, each-at, each-of-member, getD-map, flatMap-append}
 use Rattle.algebra.specs.Columns.{Cols}
-use Rattle.relation.specs.Rows.{Row, Rows, colsOf, columnsOf, rowsOf, entries}
-use Rattle.relation.specs.declared.Columns.{Columns}
+use Rattle.relation.specs.Rows.{colsOf, columnsOf, rowsOf, entries}
 use Rattle.relation.proofs.ColumnsRound.{columns-round}
 use Rattle.database.specs.declared.Database.{Database}
 use Rattle.database.specs.Stored.{tableCols, rowCount, tableStart, tableRows}
@@ -26,12 +24,17 @@ use Rattle.text.proofs.Entries.{rowsOf-entries, entries-length}
 abbrev pub noTable : Table
 noTable = record { columns = []; rows = [] }
 
+-- table t of a stored database
+abbrev pub storedTable : ℕ → Database → List ℕ → ℕ → Table
+storedTable w d store t = record { columns = columnList w (tableCols w d t); rows = tableRows w d store t }
+
 -- the table's columns lie below w and its rows have w slots
 pub record Fits (w : ℕ) (t : Table) : Type 0 where
   pub below : Each (λ c. c < w) (t .columns)
   pub sized : Each (λ r. length r ≡ w) (t .rows)
 
-value-at : {B : Type 0} (f : Table → B) (ts : List Table) (pad : List B) (e : B) (t : ℕ) → t < length ts → getD (map f ts ++ pad) t e ≡ f (getD ts t noTable)
+value-at : {B : Type 0} (f : Table → B) (ts : List Table) (pad : List B) (e : B) (t : ℕ) → t < length ts
+    → getD (map f ts ++ pad) t e ≡ f (getD ts t noTable)
 value-at f ts pad e t h = List·getD-append (map f ts) pad e t (rw (length-map ts f) h) ∙ getD-map f noTable e ts t h
 
 -- the entries of the tables, parted at one of them
@@ -104,16 +107,17 @@ module _ (w : ℕ) (ts : List Table) (fits : Each (Fits w) ts) where
       )
 
   -- the stored tables are the tables
-  pub value-tables : Each (λ (t : Table). ascending (t .columns) ≡ true) ts → (rest : List ℕ) → storedTables w (databaseValue w ts) (tableEntries ts ++ rest) ≡ ts
+  pub value-tables : Each (λ (t : Table). ascending (t .columns) ≡ true) ts → (rest : List ℕ)
+      → storedTables w (databaseValue w ts) (tableEntries ts ++ rest) ≡ ts
   value-tables up rest =
       ext-getD noTable (storedTables w (databaseValue w ts) (tableEntries ts ++ rest)) ts (length-tabulate _ (length ts)) λ t h.
       let k : t < length ts = rw (length-tabulate _ (length ts)) at h in
       getD-tabulate _ (length ts) t noTable k ∙ same t k
     where
-      same : (t : ℕ) → t < length ts
-          → _≡_ {A = Table} (record { columns = columnList w (tableCols w (databaseValue w ts) t); rows = tableRows w (databaseValue w ts) (tableEntries ts ++ rest) t }) (getD ts t noTable)
+      same : (t : ℕ) → t < length ts → storedTable w (databaseValue w ts) (tableEntries ts ++ rest) t ≡ getD ts t noTable
       same t k =
           let cs = (getD ts t noTable) .columns in
-          let columns = ap (columnList w) (value-cols t k) ∙ columns-own w cs (each-at (λ (t : Table). ascending (t .columns) ≡ true) noTable ts up t k) (at t k .below) in
+          let ascends = each-at (λ (t : Table). ascending (t .columns) ≡ true) noTable ts up t k in
+          let columns = ap (columnList w) (value-cols t k) ∙ columns-own w cs ascends (at t k .below) in
           let rows = value-rows rest t k in
           λ i. record { columns = columns i; rows = rows i }

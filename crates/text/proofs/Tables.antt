@@ -1,8 +1,8 @@
 -- Tables of a database's text are read exactly.
-use mathlib.Core.Path.{_≡_, refl, ap, ap₂, sym, _∙_, subst}
-use mathlib.Core.Bool.{Bool, true, false, _&&_}
+use mathlib.Core.Path.{_≡_, refl, sym, _∙_, subst}
+use mathlib.Core.Bool.{Bool, true, _&&_}
 use mathlib.Core.Option.{Option, some, none}
-use mathlib.Core.List.{List, [], _∷_, _++_, map, flatMap, append-assoc}
+use mathlib.Core.List.{List, [], _∷_, _++_, map, flatMap}
 use Prim.Native.Nat.{ℕ, _≤_}
 use native.Mathlib.Nat.{le-trans}
 use lib.Dec.{lit≤}
@@ -10,10 +10,10 @@ use lib.ListN.{length}
 use Rattle.laws.specs.Lists.{every}
 use Rattle.laws.proofs.Tests.{and-true}
 use Rattle.laws.proofs.TextLists.{Each, both-true}
-use Rattle.relation.specs.Rows.{Row, Rows, slot, ordered, isLess, ascend}
+use Rattle.relation.specs.Rows.{Row, Rows, slot, ascend}
 use Rattle.database.specs.declared.Refusal.the-variants.{DatabaseForm}
 use Rattle.database.specs.Stored.{rowsLimit}
-use Rattle.database.specs.Refusals.{Reply, refused, accepted, _>>=_}
+use Rattle.database.specs.Refusals.{Reply, accepted}
 use Rattle.database.proofs.Replies.{accepted-same}
 use Rattle.text.specs.Numbers.{bytes, maxNumber, digits, commaDigits}
 use Rattle.text.specs.Lines.{Rest, due, countLine, colsLine, rowLine, follows}
@@ -104,7 +104,8 @@ module _ (w : ℕ) where
       reads-then reads (rows-exact w (t .columns) (h .columns) n) (t .rows) (h .rows, h .ascends, refl) k₂ rest _ λ k₃.
       (k₃, refl))
 
-  table-printed : (s r : Rest) (t : Table) → readTable w s ≡ accepted (t, r) → (s .bytes ≡ rowsText (t .columns) (t .rows) ++ r .bytes) × GoodTable w t
+  table-printed : (s r : Rest) (t : Table) → readTable w s ≡ accepted (t, r)
+      → (s .bytes ≡ rowsText (t .columns) (t .rows) ++ r .bytes) × GoodTable w t
   unfolding readTable rowsText
   table-printed s r t e =
       bind-accepted (due DatabaseForm (colsLine w) s) _ e λ (cs, s₁) cols e₁.
@@ -113,7 +114,8 @@ module _ (w : ℕ) where
       let (b₁, columns) = due-exact DatabaseForm (cols-exact w) .printed s s₁ cs cols in
       let (b₂, (few, _)) = due-exact DatabaseForm rows-count-exact .printed s₁ s₂ n count in
       let (b₃, (good, ascends, counted)) = rows-exact w cs columns n .printed s₂ s₃ rows lines in
-      let same = put-together (lineText (bytes "cols=" ++ commaDigits cs)) (lineText (bytes "rows=" ++ digits n)) (flatMap (rowText cs) rows) (s₃ .bytes) b₁ b₂ b₃ in
+      let columns-line = lineText (bytes "cols=" ++ commaDigits cs) in
+      let same = put-together columns-line (lineText (bytes "rows=" ++ digits n)) (flatMap (rowText cs) rows) (s₃ .bytes) b₁ b₂ b₃ in
       subst (λ (p : Table × Rest). (s .bytes ≡ rowsText (p .0 .columns) (p .0 .rows) ++ p .1 .bytes) × GoodTable w (p .0)) (accepted-same e₃)
       (rw counted same, record { columns = columns; rows = good; ascends = ascends; few = rw counted few })
 
