@@ -1,5 +1,4 @@
--- Databases as texts: the accepted texts are exactly those printed for tables on the form, and each is read as the tables that it was printed
--- for.
+-- Databases as texts: the accepted texts are exactly those printed for tables on the form, and each is read as those tables.
 use mathlib.Core.Path.{_≡_, refl, subst}
 use mathlib.Core.Bool.{true}
 use mathlib.Core.List.{List}
@@ -23,11 +22,13 @@ tables-plain : plain (bytes "tables=") ≡ true
 unfolding plain every bytes
 tables-plain = refl
 
+-- the text of tables is read as the tables
 pub database-round-trip : (w : ℕ) (ts : List Table) → length ts ≤ tableLimit → Each (GoodTable w) ts → readTables w (databaseText ts) ≡ accepted ts
 unfolding readTables databaseText
 database-round-trip w ts few good =
     counted-reads DatabaseForm "tables=" tableLimit tables-plain (table-exact w) (λ _ ts. accepted ts) ts few (le-trans few (lit≤ tt)) good
 
+-- an accepted text is the text of the tables read, which are on the form
 pub read-database-printed : (w : ℕ) (text : List ℕ) (ts : List Table) → readTables w text ≡ accepted ts
     → (text ≡ databaseText ts) × (length ts ≤ tableLimit) × Each (GoodTable w) ts
 unfolding readTables databaseText

@@ -22,6 +22,7 @@ use Rattle.text.proofs.LineByLine.{Alike, Linewise, linewise-due}
 use Rattle.text.proofs.FirstBad.{firstLines, FirstBad}
 use Rattle.text.proofs.FirstBadCounted.{first-bad-counted}
 
+-- a node count out of its range is no bad line
 pub count-no-line : (limit n : ℕ) (ns : List Node) (k : ℕ) → countTested limit n ns ≡ refused (QueryForm k) → ⊥
 count-no-line limit n ns k e = by-test (leb 1 n && leb n limit) e
   where
@@ -29,6 +30,7 @@ count-no-line limit n ns k e = by-test (leb 1 n && leb n limit) e
     by-test true e = accepted-refused e
     by-test false e = let p = ap number (refused-same e) in omega arith
 
+-- 1, at a limit: for every other limit too
 pub first-bad-query-line : (w limit limit′ : ℕ) (text : List ℕ) (k : ℕ) → readNodes w limit text ≡ refused (QueryForm k)
     → FirstBad QueryForm (readNodes w limit′) text k
 unfolding readNodes
@@ -51,6 +53,7 @@ table-linewise w =
     line : {A : Type 0} (form : List ℕ → Option A) → Linewise DatabaseForm (List Table) (due DatabaseForm form)
     line = linewise-due DatabaseForm (List Table) (λ n. refl)
 
+-- 11
 pub first-bad-database-line : (w : ℕ) (text : List ℕ) (k : ℕ) → readTables w text ≡ refused (DatabaseForm k)
     → FirstBad DatabaseForm (readTables w) text k
 unfolding readTables

@@ -106,15 +106,15 @@ module _ {A : Type 0} where
   only-word b a [] e = refl
   only-word b a (n ∷ ns) e = none-some e
 
-  pub read-printed : (form : Form A) (a : A) (l : List ℕ) → Prints form a l → byForm form l ≡ some a
+  pub form-read : (form : Form A) (a : A) (l : List ℕ) → Prints form a l → byForm form l ≡ some a
   unfolding byForm commaDigits
-  read-printed (word s b) a l p =
+  form-read (word s b) a l p =
       let nothing = only-word b a (p .ns) (p .value) in
       let whole : bytes s ++ [] ≡ l = subst (λ ns. bytes s ++ commaDigits ns ≡ l) nothing (p .line) in
       rw (← whole) (rw (after-key (bytes s) []) (subst (λ ns. ifEmpty b (some ns) ≡ some a) nothing (p .value)))
-  read-printed (one s f) a l p =
+  form-read (one s f) a l p =
       rw (numbers-after s l (p .ns) (filled-value (λ ns. ifOne f (some ns)) (p .ns) a refl (p .value)) (p .small) (p .line)) (p .value)
-  read-printed (two s f) a l p =
+  form-read (two s f) a l p =
       rw (numbers-after s l (p .ns) (filled-value (λ ns. ifTwo f (some ns)) (p .ns) a refl (p .value)) (p .small) (p .line)) (p .value)
 
   -- a form with numbers behind its key
@@ -128,16 +128,16 @@ module _ {A : Type 0} where
           let (line, _, small) = after-numbers (keyOf form) l ns q in
           record { ns = ns; small = small; value = sym (v ns) ∙ e; line = line }
 
-  pub printed-read : (form : Form A) (a : A) (l : List ℕ) → byForm form l ≡ some a → Prints form a l
+  pub form-printed : (form : Form A) (a : A) (l : List ℕ) → byForm form l ≡ some a → Prints form a l
   unfolding byForm commaDigits
-  printed-read (word s b) a l e = by-rest (after (bytes s) l) refl e
+  form-printed (word s b) a l e = by-rest (after (bytes s) l) refl e
     where
       by-rest : (o : Option (List ℕ)) → after (bytes s) l ≡ o → ifEmpty b o ≡ some a → Prints (word s b) a l
       by-rest none q e = none-some e
       by-rest (some []) q e = record { ns = []; small = tt; value = e; line = sym (key-after (bytes s) l [] q) }
       by-rest (some (c ∷ m)) q e = none-some e
-  printed-read (one s f) a l e = behind-key (one s f) (ifOne f) a l refl (λ ns. refl) e
-  printed-read (two s f) a l e = behind-key (two s f) (ifTwo f) a l refl (λ ns. refl) e
+  form-printed (one s f) a l e = behind-key (one s f) (ifOne f) a l refl (λ ns. refl) e
+  form-printed (two s f) a l e = behind-key (two s f) (ifTwo f) a l refl (λ ns. refl) e
 
   pub prints-unbroken : (form : Form A) (a : A) (l : List ℕ) → plain (bytes (keyOf form)) ≡ true → Prints form a l → Without newline l
   prints-unbroken form a l p q = subst (Without newline) (q .line) (key-numbers-unbroken (keyOf form) p (q .ns))
@@ -164,7 +164,7 @@ module _ {A : Type 0} where
   pub read-by-forms : (forms : List (Form A)) (a : A) (l : List ℕ) → keysApart forms ≡ true → Some (λ f. Prints f a l) forms
       → byForms forms l ≡ some a
   unfolding byForms keysApart
-  read-by-forms (f ∷ forms) a l e (first p) = rw (read-printed f a l p, byForms)
+  read-by-forms (f ∷ forms) a l e (first p) = rw (form-read f a l p, byForms)
   read-by-forms (f ∷ forms) a l e (later p) =
       let (others, rest) = both-true (every (λ g. apart (bytes (keyOf f)) (bytes (keyOf g))) forms) (keysApart forms) e in
       rw (later-form f forms a l others p, byForms) (read-by-forms forms a l rest p)
@@ -177,7 +177,7 @@ module _ {A : Type 0} where
       by-first : (o : Option A) → byForm f l ≡ o → (byForms forms l ≡ some a → Some (λ f. Prints f a l) forms)
           → elim o [ none ↦ byForms forms l | some a ↦ some a ] ≡ some a → Some (λ f. Prints f a l) (f ∷ forms)
       by-first none q g e = later (g e)
-      by-first (some b) q g e = first (printed-read f a l (q ∙ e))
+      by-first (some b) q g e = first (form-printed f a l (q ∙ e))
 
   -- a value in its range
   pub in-range : (p : A → Bool) (o : Option A) (a : A) → inRange p o ≡ some a → (o ≡ some a) × (p a ≡ true)

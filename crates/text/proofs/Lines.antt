@@ -16,7 +16,7 @@ use Rattle.query.specs.Lines.{onForm}
 use Rattle.text.specs.Numbers.{bytes, maxNumber, digits, commaDigits}
 use Rattle.text.specs.Lines.{word, one, byForm, headerLine, countLine, nodeLine, nodeText}
 use Rattle.text.proofs.NumberLists.{AllSmall}
-use Rattle.text.proofs.Forms.{valueOf, plain, plain-unbroken, key-numbers-unbroken, read-printed, printed-read, in-range, range-in}
+use Rattle.text.proofs.Forms.{valueOf, plain, plain-unbroken, key-numbers-unbroken, form-read, form-printed, in-range, range-in}
 use Rattle.text.proofs.NodeForms.{Small, node-unbroken}
 use Rattle.text.proofs.NodeLines.{node-line, line-node}
 use Rattle.text.proofs.Exact.{ExactLine}
@@ -36,9 +36,9 @@ pub header-exact : ExactLine headerLine (λ _. bytes "guide=1") (λ _. Unit {0})
 unfolding commaDigits plain every bytes
 header-exact = record {
   reads = λ _ _.
-      read-printed (word "guide=1" tt) tt (bytes "guide=1") (record { ns = []; small = tt; value = refl; line = append-nil (bytes "guide=1") });
+      form-read (word "guide=1" tt) tt (bytes "guide=1") (record { ns = []; small = tt; value = refl; line = append-nil (bytes "guide=1") });
   unbroken = λ _ _. plain-unbroken (bytes "guide=1") refl;
-  printed = λ l _ e. let p = printed-read (word "guide=1" tt) tt l e in (alone l (p .ns) (p .value) (p .line), tt);
+  printed = λ l _ e. let p = form-printed (word "guide=1" tt) tt l e in (alone l (p .ns) (p .value) (p .line), tt);
 }
   where
     alone : (l ns : List ℕ) → valueOf {A = Unit {0}} (word "guide=1" tt) ns ≡ some tt → bytes "guide=1" ++ commaDigits ns ≡ l → bytes "guide=1" ≡ l
@@ -52,12 +52,12 @@ unfolding commaDigits
 count-exact key most p = record {
   reads = λ n (h, s).
       range-in (λ n. leb n most) (byForm (one key (λ n. n)) (bytes key ++ digits n)) n
-      (read-printed (one key (λ n. n)) n (bytes key ++ digits n) (record { ns = n ∷ []; small = (s, tt); value = refl; line = refl }))
+      (form-read (one key (λ n. n)) n (bytes key ++ digits n) (record { ns = n ∷ []; small = (s, tt); value = refl; line = refl }))
       (le-leb n most h);
   unbroken = λ n _. key-numbers-unbroken key p (n ∷ []);
   printed = λ l n e.
       let (read, low) = in-range (λ n. leb n most) (byForm (one key (λ n. n)) l) n e in
-      let q = printed-read (one key (λ n. n)) n l read in
+      let q = form-printed (one key (λ n. n)) n l read in
       let (line, small) = single l n (q .ns) (q .small) (q .value) (q .line) in
       (line, (leb-true n most low, small));
 }

@@ -18,6 +18,7 @@ use Rattle.text.proofs.Exact.{due-exact}
 use Rattle.text.proofs.Counted.{counted-reads, counted-printed}
 use Rattle.text.proofs.Lines.{GoodNode, node-exact, nodes-plain, countTested}
 
+-- a query's text is read as the query
 pub query-round-trip : (w limit : ℕ) (ns : List Node) → 1 ≤ length ns → length ns ≤ limit → length ns ≤ maxNumber → Each (GoodNode w) ns
     → readNodes w limit (queryText ns) ≡ accepted ns
 unfolding readNodes queryText
@@ -25,6 +26,7 @@ query-round-trip w limit ns low high small good =
     rw (counted-reads QueryForm "nodes=" maxNumber nodes-plain (due-exact QueryForm (node-exact w)) (countTested limit) ns small small good)
     (rw (le-leb 1 (length ns) low, le-leb (length ns) limit high))
 
+-- an accepted text is the text of the query read, which is on the form
 pub read-printed : (w limit : ℕ) (text : List ℕ) (ns : List Node) → readNodes w limit text ≡ accepted ns
     → (text ≡ queryText ns) × (1 ≤ length ns) × (length ns ≤ limit) × Each (GoodNode w) ns
 unfolding readNodes queryText

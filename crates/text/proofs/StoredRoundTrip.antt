@@ -16,23 +16,24 @@ use Rattle.text.proofs.ReadTables.{all-fit, value-checked}
 use Rattle.text.proofs.StoredTables.{stored-good, stored-value-schema, stored-value-rows, stored-front}
 use Rattle.text.proofs.StoredValues.{value-tables}
 
--- tables as a stored database are those of d and its store
+-- tables that, stored, are those of d and its store: whatever stands in the store behind their entries
 pub record SameStored (w : ℕ) (d : Database) (store : List ℕ) (ts : List Table) : Type 0 where
   pub schemas : schema w (databaseValue w ts) ≡ schema w d
   pub front : tableEntries ts ≡ take (tableStart w d (d .tables)) store
   pub rows : (rest : List ℕ) (t : ℕ) → t < d .tables → tableRows w (databaseValue w ts) (tableEntries ts ++ rest) t ≡ tableRows w d store t
 
--- a stored database that passes its test, printed and read
+-- a stored database that passes its test, printed and read: its tables
 pub stored-round-trip : (w : ℕ) → w ≤ maxNumber → (d : Database) (store : List ℕ) → checkDatabase w d store ≡ accepted tt → AllSmall store
     → readTables w (databaseText (storedTables w d store)) ≡ accepted (storedTables w d store)
 stored-round-trip w wide d store e small =
     let (few, good) = stored-good w d store e wide small in
     database-round-trip w (storedTables w d store) few good
 
+-- they stand for the same database: the same columns, entries and rows
 pub stored-same : (w : ℕ) (d : Database) (store : List ℕ) → checkDatabase w d store ≡ accepted tt → SameStored w d store (storedTables w d store)
 stored-same w d store e = record { schemas = stored-value-schema w d store e; front = stored-front w d store; rows = stored-value-rows w d store e }
 
--- a text read and stored, whatever the store holds behind the entries
+-- a text read and stored: the stored database passes its test, its tables are those read, and they print the text
 pub read-stored : (w : ℕ) (text : List ℕ) (ts : List Table) → readTables w text ≡ accepted ts → (rest : List ℕ)
     → (checkDatabase w (databaseValue w ts) (tableEntries ts ++ rest) ≡ accepted tt)
     × (storedTables w (databaseValue w ts) (tableEntries ts ++ rest) ≡ ts)
