@@ -29,3 +29,4 @@ pub mod StoredValues
 pub mod StoredTables
 pub mod ReadTables
 pub mod StoredRoundTrip
+pub mod TextRoundTrip

@@ -28,12 +28,12 @@ query-round-trip w limit ns low high small good =
 
 -- an accepted text is the text of the query read, which is on the form
 pub read-printed : (w limit : ℕ) (text : List ℕ) (ns : List Node) → readNodes w limit text ≡ accepted ns
-    → (text ≡ queryText ns) × (1 ≤ length ns) × (length ns ≤ limit) × Each (GoodNode w) ns
+    → (text ≡ queryText ns) × (1 ≤ length ns) × (length ns ≤ limit) × (length ns ≤ maxNumber) × Each (GoodNode w) ns
 unfolding readNodes queryText
 read-printed w limit text ns e =
-    let (ms, same, _, good, last) =
+    let (ms, same, few, good, last) =
     counted-printed QueryForm "nodes=" maxNumber nodes-plain (due-exact QueryForm (node-exact w)) (countTested limit) text ns e in
     bind-accepted (require (leb 1 (length ms) && leb (length ms) limit) (NodeCount 2)) _ last λ _ range read.
     let (low, high) = both-true (leb 1 (length ms)) (leb (length ms) limit) (required _ _ tt range) in
-    subst (λ ns. (text ≡ queryText ns) × (1 ≤ length ns) × (length ns ≤ limit) × Each (GoodNode w) ns) (accepted-same read)
-    (same, leb-true 1 (length ms) low, leb-true (length ms) limit high, good)
+    subst (λ ns. (text ≡ queryText ns) × (1 ≤ length ns) × (length ns ≤ limit) × (length ns ≤ maxNumber) × Each (GoodNode w) ns) (accepted-same read)
+    (same, leb-true 1 (length ms) low, leb-true (length ms) limit high, few, good)
