@@ -11,7 +11,8 @@ use Rattle.database.specs.Refusals.{accepted}
 use Rattle.query.specs.declared.Node.{Node}
 use Rattle.text.specs.Numbers.{maxNumber}
 use Rattle.text.specs.Texts.{readNodes, queryText, Table, readTables, databaseText}
-use Rattle.text.proofs.QueryRoundTrip.{GoodNode, query-round-trip, read-printed}
+use Rattle.text.proofs.QueryRoundTrip.{query-round-trip, read-printed}
+use Rattle.text.proofs.Lines.{GoodNode}
 use Rattle.text.proofs.Tables.{GoodTable}
 use Rattle.text.proofs.DatabaseRoundTrip.{database-round-trip, read-database-printed}
 
