@@ -1,3 +1,4 @@
 pub mod Tests
 pub mod Lists
+pub mod RowLists
 pub mod Options
