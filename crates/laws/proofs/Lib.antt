@@ -3,3 +3,6 @@ pub mod Lists
 pub mod RowLists
 pub mod Options
 pub mod Indexed
+pub mod TextLists
+pub mod Faults
+pub mod PlanLists
