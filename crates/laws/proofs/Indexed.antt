@@ -1,18 +1,26 @@
 -- Loops over the numbers below n: a test of each, and a list written entry by entry.
 use mathlib.Core.Path.{_≡_, refl, ap, sym, _∙_}
-use mathlib.Core.Bool.{Bool, true, false}
+use mathlib.Core.Bool.{Bool, true, false, _&&_}
 use mathlib.Core.Logic.{inl, inr}
-use mathlib.Core.List.{List}
-use Prim.Native.Nat.{ℕ, _+_, _≤_, _<_}
+use mathlib.Core.List.{List, [], _∷_, _++_}
+use Prim.Native.Nat.{ℕ, zero, suc, _+_, _≤_, _<_}
 use native.Mathlib.Omega.{arith}
 use native.Mathlib.Numerals.{add-one}
 use native.Mathlib.Nat.{not-suc-le-zero}
 use lib.ListN.{length, take, drop, getD, set, length-set, length-drop}
 use lib.Seq.{getD-set-same, getD-set-other, getD-take, getD-drop, length-take-le, ext-getD}
-use Rattle.laws.specs.Lists.{all, tabulate}
+use Rattle.laws.specs.Lists.{every, all, tabulate}
 use Rattle.laws.proofs.Tests.{true-false, same?}
 use Rattle.laws.proofs.Lists.{all-below}
 use Rattle.laws.proofs.RowLists.{length-tabulate, getD-tabulate}
+
+pub and-unit : (a : Bool) → a && true ≡ a
+and-unit true = refl
+and-unit false = refl
+
+pub and-assoc : (a b c : Bool) → (a && b) && c ≡ a && (b && c)
+and-assoc true b c = refl
+and-assoc false b c = refl
 
 -- a test that has passed below i, and passes at i or fails there
 module _ (p : ℕ → Bool) where
@@ -30,6 +38,24 @@ module _ (p : ℕ → Bool) where
       by-test : (b : Bool) → all p n ≡ b → b ≡ false
       by-test true a = true-false (sym (all-below p n a i h) ∙ e)
       by-test false a = refl
+
+-- two tests of each number are one
+pub all-both : (p q : ℕ → Bool) (n : ℕ) → all (λ i. p i && q i) n ≡ all p n && all q n
+unfolding all
+all-both p q zero = refl
+all-both p q (suc n) = ap (λ (b : Bool). b && (p n && q n)) (all-both p q n) ∙ and-swap (all p n) (all q n) (p n) (q n)
+  where
+    and-swap : (a b c d : Bool) → (a && b) && (c && d) ≡ (a && c) && (b && d)
+    and-swap true true c d = refl
+    and-swap true false true d = refl
+    and-swap true false false d = refl
+    and-swap false b c d = refl
+
+-- a test of each member, the last one's after the others
+pub every-snoc : {A : Type 0} (p : A → Bool) (l : List A) (a : A) → every p (l ++ (a ∷ [])) ≡ every p l && p a
+unfolding every
+every-snoc p [] a = and-unit (p a)
+every-snoc p (b ∷ l) a = ap (λ (t : Bool). p b && t) (every-snoc p l a) ∙ sym (and-assoc (p b) (every p l) (p a))
 
 -- a list whose entries are those of a table
 pub is-tabulate : {A : Type 0} (d : A) (f : ℕ → A) (n : ℕ) (l : List A) → length l ≡ n → ((c : ℕ) → c < n → getD l c d ≡ f c) → l ≡ tabulate f n
