@@ -1,8 +1,8 @@
 // A stored book's tables, and the test that it is on the form (11).
 use super::Database;
 use super::Refusal;
-use super::TABLES;
 use super::TABLE_ROWS;
+use super::TABLES;
 use super::Verdict;
 use relation::COLUMNS;
 use relation::Columns;
