@@ -90,20 +90,20 @@ module _ (w : ℕ) (d : Database) (t : ℕ) where
       nothing true false = refl
       nothing false b = refl
 
+abbrev pub anyColumn : ℕ → Database → ℕ → Bool
+anyColumn w d t = not (all (λ c. not (tableCols w d t c)) w)
+
 -- a table's tests in turn
 module _ (w : ℕ) (d : Database) (store : List ℕ) (t : ℕ) where
-  abbrev pub anyColumn : Bool
-  anyColumn = not (all (λ c. not (tableCols w d t c)) w)
-
-  pub without-columns : anyColumn ≡ false → tableOk w d store t ≡ false
+  pub without-columns : anyColumn w d t ≡ false → tableOk w d store t ≡ false
   unfolding tableOk
   without-columns e = rw e
 
-  pub with-many-rows : anyColumn ≡ true → rowsLimit < rowCount w d t → tableOk w d store t ≡ false
+  pub with-many-rows : anyColumn w d t ≡ true → rowsLimit < rowCount w d t → tableOk w d store t ≡ false
   unfolding tableOk
   with-many-rows e h = rw (e, lt-leb (rowCount w d t) rowsLimit h)
 
-  module _ (some : anyColumn ≡ true) (few : rowCount w d t ≤ rowsLimit) where
+  module _ (some : anyColumn w d t ≡ true) (few : rowCount w d t ≤ rowsLimit) where
     pub without-room : length store < tableStart w d t + w * rowCount w d t → tableOk w d store t ≡ false
     unfolding tableOk
     without-room h = rw (some, le-leb (rowCount w d t) rowsLimit few, lt-leb (tableStart w d t + w * rowCount w d t) (length store) h)

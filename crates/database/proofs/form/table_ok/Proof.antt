@@ -29,7 +29,7 @@ cols-are c =
     ap (colsOf columns) (c .table-columns .ensures) ∙ columns-round columns (tableCols columns (a .database) (a .t)) (table-below columns (a .database) (a .t))
 
 any : (c : tie.After-any-column)
-    → anyColumn columns (c .before .before .before .args .database) (now (c .before .before .before .args .store)) (c .before .before .before .args .t) ≡ c .any-column .result
+    → anyColumn columns (c .before .before .before .args .database) (c .before .before .before .args .t) ≡ c .any-column .result
 any c = ap (λ (D : Cols). not (all (λ c. not (D c)) columns)) (sym (cols-are (c .before))) ∙ sym (c .any-column .ensures)
 
 returns : tie.Need-returns
@@ -38,7 +38,7 @@ returns c =
     sym (without-columns columns (a .database) (now (a .store)) (a .t) (any (c .before) ∙ not-true (c .before .any-column .result) (c .if1 .taken)))
 
 some : (c : tie.After-row-count)
-    → anyColumn columns (c .before .before .before .before .before .args .database) (now (c .before .before .before .before .before .args .store)) (c .before .before .before .before .before .args .t) ≡ true
+    → anyColumn columns (c .before .before .before .before .before .args .database) (c .before .before .before .before .before .args .t) ≡ true
 some c = any (c .before .before) ∙ not-false (c .before .before .any-column .result) (c .before .if1 .left)
 
 returns-2 : tie.Need-returns-2
