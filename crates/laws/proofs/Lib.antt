@@ -2,6 +2,7 @@ pub mod Tests
 pub mod Lists
 pub mod RowLists
 pub mod Options
+pub mod Indexed
 pub mod TextLists
 pub mod Faults
 pub mod PlanLists
