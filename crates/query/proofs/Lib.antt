@@ -10,3 +10,4 @@ pub mod Complete
 pub mod CheckedIff
 pub mod Starts
 pub mod Lengths
+pub mod FormNodes
