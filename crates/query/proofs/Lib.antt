@@ -11,3 +11,6 @@ pub mod CheckedIff
 pub mod Starts
 pub mod Lengths
 pub mod FormNodes
+pub mod Visits
+pub mod Operands
+pub mod Walks
