@@ -14,3 +14,4 @@ pub mod FormNodes
 pub mod Visits
 pub mod Operands
 pub mod Walks
+pub mod Contexts
