@@ -1,14 +1,14 @@
 -- Loops over a list: an array filled from its start, faults gathered from its start, and a search to its end.
 use mathlib.Core.Path.{_≡_, refl, ap, sym, _∙_}
 use mathlib.Core.Bool.{Bool, true, false, _||_, _&&_}
-use mathlib.Core.List.{List, [], _∷_, _++_, append-assoc, append-nil}
+use mathlib.Core.List.{List, [], _∷_, _++_, map, append-assoc, append-nil, map-append}
 use Prim.Native.Nat.{ℕ, zero, suc, _+_, _-_, _≤_, _<_}
 use native.Mathlib.Omega.{arith}
 use native.Mathlib.Numerals.{add-one}
 use native.Mathlib.Nat.{not-suc-le-zero}
 use native.Mathlib.Decide.{decLt}
-use lib.ListN.{length, getD, set, take, drop, replicate, length-append, length-replicate, getD-replicate, List·getD-append, List·getD-eq-default}
-use lib.Seq.{set-at, getD-append-add, take-suc, split-at}
+use lib.ListN.{length, getD, set, take, drop, replicate, length-append, length-map, length-replicate, getD-replicate, List·getD-append, List·getD-map, List·getD-eq-default}
+use lib.Seq.{set-at, getD-append-add, take-suc, split-at, length-take-le, getD-take}
 use Rattle.laws.specs.Lists.{every, any}
 
 -- an array of n entries that has been filled from its start: the rest holds d
@@ -96,3 +96,31 @@ module _ {A : Type 0} (p : A → Bool) where
       by-test : (b : Bool) → every p (l ++ m) ≡ every p l && every p m → b && every p (l ++ m) ≡ (b && every p l) && every p m
       by-test true e = e
       by-test false e = refl
+
+-- within the list the default is not read
+pub getD-any : {A : Type 0} (l : List A) (j : ℕ) (d e : A) → j < length l → getD l j d ≡ getD l j e
+getD-any [] j d e h = absurd (not-suc-le-zero h)
+getD-any (a ∷ l) zero d e h = refl
+getD-any (a ∷ l) (suc j) d e h = getD-any l j d e (omega arith)
+
+-- an array that has been filled with what the first i elements of a list give
+module _ {A B : Type 0} (n : ℕ) (d : B) (f : A → B) (l : List A) (i : ℕ) where
+  abbrev pub filledTo : List B
+  filledTo = filled n d (map f (take i l))
+
+  pub filledTo-length : i ≤ length l → length (map f (take i l)) ≡ i
+  filledTo-length h = length-map (take i l) f ∙ length-take-le i l h
+
+  -- what is read below i, whatever the default
+  pub filledTo-at : (x : A) (e : B) (j : ℕ) → j < i → i ≤ length l → getD filledTo j e ≡ f (getD l j x)
+  filledTo-at x e j h k =
+      let s = filledTo-length k in
+      List·getD-append (map f (take i l)) (replicate (n - length (map f (take i l))) d) e j (omega arith)
+      ∙ getD-any (map f (take i l)) j e (f x) (omega arith) ∙ List·getD-map f (take i l) j x ∙ ap f (getD-take i l j x h)
+
+  -- the next entry is stored
+  pub filledTo-more : (x : A) (v : B) → i < length l → i < n → v ≡ f (getD l i x) → set filledTo i v ≡ filled n d (map f (take (i + 1) l))
+  filledTo-more x v h k e =
+      filled-more n d (map f (take i l)) v i (filledTo-length (omega arith)) k
+      ∙ ap (filled n d)
+      (ap (λ (w : B). map f (take i l) ++ (w ∷ [])) e ∙ sym (map-append f (take i l) (getD l i x ∷ [])) ∙ ap (map f) (sym (take-suc l i x h) ∙ ap (λ (k : ℕ). take k l) (sym (add-one i))))

@@ -15,3 +15,4 @@ pub mod Visits
 pub mod Operands
 pub mod Walks
 pub mod Contexts
+pub mod ShapedNodes

@@ -215,6 +215,9 @@ padded-low : (l : List ℕ) → Low 0 l → (k : ℕ) → getD (padded 0 l) k 0 
 unfolding Low
 padded-low l h k = rw (filled-at nodeLimit 0 l k) (let e = h k in omega arith)
 
+pub begins-low : (t : Term) (k : ℕ) → getD (padded 0 (starts 0 t)) k 0 ≤ k
+begins-low t = padded-low (starts 0 t) (starts-low 0 t)
+
 -- i lines have been read: the stack that they leave, and the starts
 pub record ReadTo (ns : List Node) (i : ℕ) (start : List ℕ) : Type 0 where
   pub stack : List Term

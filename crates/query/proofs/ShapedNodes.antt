@@ -1,0 +1,67 @@
+-- The nodes of a query that reads to a term, as the code finds them: by index, from the lines and the starts.
+use mathlib.Core.Path.{_≡_, refl, ap, sym, _∙_, subst}
+use mathlib.Core.List.{List, [], map}
+use Prim.Native.Nat.{ℕ, _+_, _-_, _≤_, _<_}
+use native.Mathlib.Omega.{arith}
+use lib.ListN.{length, getD, drop, List·getD-map}
+use Rattle.laws.proofs.Passes.{filled-at, filledTo, filledTo-at}
+use Rattle.algebra.specs.Term.{Term}
+use Rattle.algebra.specs.Columns.{noCols, Schema, size}
+use Rattle.database.specs.Refusals.{Reply}
+use Rattle.query.specs.declared.Node.{Node}
+use Rattle.query.specs.declared.Node.the-variants.{Table}
+use Rattle.query.specs.declared.Query.{Query}
+use Rattle.query.specs.Lines.{nodeLimit, nodes, lines, termOf}
+use Rattle.query.specs.Facts.{Visit, visits, visited, padded}
+use Rattle.query.specs.Shape.{root, starts, Shaped}
+use Rattle.query.specs.Passes.{noVisit, visitsOf, visitAt}
+use Rattle.query.proofs.TermLines.{term-lines}
+use Rattle.query.proofs.Starts.{begins-low}
+use Rattle.query.proofs.Visits.{visits-length, visits-lines, visits-starts}
+use Rattle.query.proofs.Operands.{lastOf, firstOf, NodeAt, node-at}
+use Rattle.query.proofs.Contexts.{Context, contextOf, context, node-context}
+
+module _ (q : Query) (start : List ℕ) (s : Shaped q start) where
+  pub start-low : (j : ℕ) → getD start j 0 ≤ j
+  start-low j = rw (s .begins) (begins-low (s .term) j)
+
+  module _ (G : Schema) where
+    pub nodes-are : visitsOf G q ≡ visits G noCols [] 0 (s .term)
+    nodes-are = ap (visited G) (s .reads)
+
+    pub visits-count : length (visitsOf G q) ≡ q .count
+    visits-count = ap length nodes-are ∙ visits-length G noCols [] 0 (s .term) ∙ s .counted
+
+    pub start-at : (j : ℕ) → getD start j 0 ≡ visitAt G q j .start
+    start-at j =
+        ap (λ (l : List ℕ). getD l j 0) (s .begins) ∙ filled-at nodeLimit 0 (starts 0 (s .term)) j
+        ∙ ap (λ (l : List ℕ). getD l j 0) (sym (visits-starts G noCols [] 0 (s .term)))
+        ∙ List·getD-map (λ (x : Visit). x .start) (visits G noCols [] 0 (s .term)) j noVisit ∙ ap (λ (l : List Visit). getD l j noVisit .start) (sym nodes-are)
+
+    pub lines-are : nodes q ≡ map (λ (x : Visit). root (x .term)) (visitsOf G q)
+    lines-are =
+        term-lines (nodes q) (s .term) .0 (s .reads) ∙ sym (visits-lines G noCols [] 0 (s .term)) ∙ ap (map (λ (x : Visit). root (x .term))) (sym nodes-are)
+
+    -- each line is its node's
+    pub line-at : (i : ℕ) → getD (nodes q) i (Table 0) ≡ root (visitAt G q i .term)
+    line-at i = ap (λ (l : List Node). getD l i (Table 0)) lines-are ∙ List·getD-map (λ (x : Visit). root (x .term)) (visitsOf G q) i noVisit
+
+    module _ (i : ℕ) (h : i < q .count) where
+      pub shaped-node : NodeAt G (visitsOf G q) i
+      shaped-node = subst (λ (l : List Visit). NodeAt G l i) (sym nodes-are) (node-at G noCols [] (s .term) i (rw (s .counted) h))
+
+      -- what stands around it
+      pub shaped-context : contextOf (visitAt G q i) ≡ context G i (drop (i + 1) (visitsOf G q)) (record { variable = noCols; around = [] })
+      shaped-context =
+          subst (λ (l : List Visit). contextOf (getD l i noVisit) ≡ context G i (drop (i + 1) l) (record { variable = noCols; around = [] })) (sym nodes-are)
+          (node-context G noCols [] (s .term) i (rw (s .counted) h))
+
+      -- what an array that holds something of each lower node says of the operands
+      module _ {B : Type 0} (d e : B) (f : Visit → B) where
+        pub last-held : 1 ≤ i → getD (filledTo nodeLimit d f (visitsOf G q) i) (i - 1) e ≡ f (lastOf (visitsOf G q) i)
+        last-held k = filledTo-at nodeLimit d f (visitsOf G q) i noVisit e (i - 1) (omega arith) (omega (arith, visits-count))
+
+        pub first-held : 1 ≤ i → getD (filledTo nodeLimit d f (visitsOf G q) i) (getD start (i - 1) 0 - 1) e ≡ f (firstOf (visitsOf G q) i)
+        first-held k =
+            filledTo-at nodeLimit d f (visitsOf G q) i noVisit e (getD start (i - 1) 0 - 1) (omega (arith, start-low (i - 1))) (omega (arith, visits-count))
+            ∙ ap (λ (j : ℕ). f (getD (visitsOf G q) (j - 1) noVisit)) (start-at (i - 1))
