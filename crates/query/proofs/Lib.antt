@@ -16,3 +16,5 @@ pub mod Operands
 pub mod Walks
 pub mod Contexts
 pub mod ShapedNodes
+pub mod VariableSets
+pub mod FreeNodes

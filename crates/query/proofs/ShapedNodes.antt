@@ -1,10 +1,11 @@
 -- The nodes of a query that reads to a term, as the code finds them: by index, from the lines and the starts.
-use mathlib.Core.Path.{_≡_, refl, ap, sym, _∙_, subst}
+use mathlib.Core.Path.{_≡_, refl, ap, ap₂, sym, _∙_, subst}
 use mathlib.Core.List.{List, [], map}
 use Prim.Native.Nat.{ℕ, _+_, _-_, _≤_, _<_}
 use native.Mathlib.Omega.{arith}
-use lib.ListN.{length, getD, drop, List·getD-map}
-use Rattle.laws.proofs.Passes.{filled-at, filledTo, filledTo-at}
+use lib.ListN.{length, getD, set, take, drop, List·getD-map}
+use lib.Seq.{take-length}
+use Rattle.laws.proofs.Passes.{filled-at, filledTo, filledTo-at, filledTo-more}
 use Rattle.algebra.specs.Term.{Term}
 use Rattle.algebra.specs.Columns.{noCols, Schema, size}
 use Rattle.database.specs.Refusals.{Reply}
@@ -57,11 +58,24 @@ module _ (q : Query) (start : List ℕ) (s : Shaped q start) where
           (node-context G noCols [] (s .term) i (rw (s .counted) h))
 
       -- what an array that holds something of each lower node says of the operands
-      module _ {B : Type 0} (d e : B) (f : Visit → B) where
-        pub last-held : 1 ≤ i → getD (filledTo nodeLimit d f (visitsOf G q) i) (i - 1) e ≡ f (lastOf (visitsOf G q) i)
-        last-held k = filledTo-at nodeLimit d f (visitsOf G q) i noVisit e (i - 1) (omega arith) (omega (arith, visits-count))
+      module _ {B : Type 0} (d e : B) (f : Visit → B) (held : List B) (is : held ≡ filledTo nodeLimit d f (visitsOf G q) i) where
+        pub last-held : (j : ℕ) → j ≡ i - 1 → 1 ≤ i → getD held j e ≡ f (lastOf (visitsOf G q) i)
+        last-held j at k =
+            ap₂ (λ (l : List B) (m : ℕ). getD l m e) is at
+            ∙ filledTo-at nodeLimit d f (visitsOf G q) i noVisit e (i - 1) (omega arith) (omega (arith, visits-count))
 
-        pub first-held : 1 ≤ i → getD (filledTo nodeLimit d f (visitsOf G q) i) (getD start (i - 1) 0 - 1) e ≡ f (firstOf (visitsOf G q) i)
-        first-held k =
-            filledTo-at nodeLimit d f (visitsOf G q) i noVisit e (getD start (i - 1) 0 - 1) (omega (arith, start-low (i - 1))) (omega (arith, visits-count))
+        pub first-held : (j : ℕ) → j ≡ getD start (i - 1) 0 - 1 → 1 ≤ i → getD held j e ≡ f (firstOf (visitsOf G q) i)
+        first-held j at k =
+            ap₂ (λ (l : List B) (m : ℕ). getD l m e) is at
+            ∙ filledTo-at nodeLimit d f (visitsOf G q) i noVisit e (getD start (i - 1) 0 - 1) (omega (arith, start-low (i - 1))) (omega (arith, visits-count))
             ∙ ap (λ (j : ℕ). f (getD (visitsOf G q) (j - 1) noVisit)) (start-at (i - 1))
+
+        -- what is stored for the node itself
+        pub held-more : (v : B) → v ≡ f (visitAt G q i) → set held i v ≡ filledTo nodeLimit d f (visitsOf G q) (i + 1)
+        held-more v at =
+            let k = s .fits in
+            ap (λ (l : List B). set l i v) is ∙ filledTo-more nodeLimit d f (visitsOf G q) i noVisit v (omega (arith, visits-count)) (omega arith) at
+
+    -- after the last node
+    pub held-all : {B : Type 0} (d : B) (f : Visit → B) (i : ℕ) → i ≡ q .count → filledTo nodeLimit d f (visitsOf G q) i ≡ padded d (map f (visitsOf G q))
+    held-all d f i h = ap (λ (l : List Visit). padded d (map f l)) (ap (λ (k : ℕ). take k (visitsOf G q)) (h ∙ sym visits-count) ∙ take-length (visitsOf G q))

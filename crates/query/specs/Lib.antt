@@ -3,3 +3,4 @@ pub mod Check
 pub mod Facts
 pub mod Shape
 pub mod Passes
+pub mod FreeSets
