@@ -18,3 +18,4 @@ pub mod Contexts
 pub mod ShapedNodes
 pub mod VariableSets
 pub mod FreeNodes
+pub mod ScopeNodes

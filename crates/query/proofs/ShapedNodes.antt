@@ -3,9 +3,9 @@ use mathlib.Core.Path.{_≡_, refl, ap, ap₂, sym, _∙_, subst}
 use mathlib.Core.List.{List, [], map}
 use Prim.Native.Nat.{ℕ, _+_, _-_, _≤_, _<_}
 use native.Mathlib.Omega.{arith}
-use lib.ListN.{length, getD, set, take, drop, List·getD-map}
+use lib.ListN.{length, length-map, getD, set, take, drop, replicate, List·getD-append, List·getD-map}
 use lib.Seq.{take-length}
-use Rattle.laws.proofs.Passes.{filled-at, filledTo, filledTo-at, filledTo-more}
+use Rattle.laws.proofs.Passes.{filled-at, filledTo, filledTo-at, filledTo-more, getD-any}
 use Rattle.algebra.specs.Term.{Term}
 use Rattle.algebra.specs.Columns.{noCols, Schema, size}
 use Rattle.database.specs.Refusals.{Reply}
@@ -79,3 +79,21 @@ module _ (q : Query) (start : List ℕ) (s : Shaped q start) where
     -- after the last node
     pub held-all : {B : Type 0} (d : B) (f : Visit → B) (i : ℕ) → i ≡ q .count → filledTo nodeLimit d f (visitsOf G q) i ≡ padded d (map f (visitsOf G q))
     held-all d f i h = ap (λ (l : List Visit). padded d (map f l)) (ap (λ (k : ℕ). take k (visitsOf G q)) (h ∙ sym visits-count) ∙ take-length (visitsOf G q))
+
+    -- what a whole array says of a node, and of the operands of one
+    module _ {B : Type 0} (d e : B) (f : Visit → B) (held : List B) (is : held ≡ padded d (map f (visitsOf G q))) where
+      pub whole-at : (j : ℕ) → j < q .count → getD held j e ≡ f (visitAt G q j)
+      whole-at j h =
+          let vs = visitsOf G q in
+          let n : length (map f vs) ≡ q .count = length-map vs f ∙ visits-count in
+          ap (λ (l : List B). getD l j e) is ∙ List·getD-append (map f vs) (replicate (nodeLimit - length (map f vs)) d) e j (omega arith)
+          ∙ getD-any (map f vs) j e (f noVisit) (omega arith) ∙ List·getD-map f vs j noVisit
+
+      module _ (i : ℕ) (h : i < q .count) where
+        pub whole-last : (j : ℕ) → j ≡ i - 1 → getD held j e ≡ f (lastOf (visitsOf G q) i)
+        whole-last j at = ap (λ (m : ℕ). getD held m e) at ∙ whole-at (i - 1) (omega arith)
+
+        pub whole-first : (k : ℕ) → k ≡ getD start (i - 1) 0 - 1 → getD held k e ≡ f (firstOf (visitsOf G q) i)
+        whole-first k at =
+            ap (λ (m : ℕ). getD held m e) at ∙ whole-at (getD start (i - 1) 0 - 1) (omega (arith, start-low (i - 1)))
+            ∙ ap (λ (m : ℕ). f (getD (visitsOf G q) (m - 1) noVisit)) (start-at (i - 1))

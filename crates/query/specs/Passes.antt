@@ -9,11 +9,13 @@ use Rattle.algebra.specs.Term.{Term, table, var, fact, pair, filter, copy, drop
 use Rattle.algebra.specs.Columns.{Cols, noCols, Schema, cols, free, isClosed, size, named}
 use Rattle.database.specs.declared.Refusal.{Refusal}
 use Rattle.database.specs.declared.Refusal.the-variants.{Scope, OpenFix, HalfOpen, ColumnFault, NoTable}
+use Rattle.database.specs.declared.Verdict.{Verdict}
+use Rattle.database.specs.Refusals.{Reply, verdict, noFault, _>>=_}
 use Rattle.query.specs.declared.Node.{Node}
 use Rattle.query.specs.declared.Node.the-variants.{Table, Var, Fact, Pair, Filter, Copy, Drop, Fix}
 use Rattle.query.specs.declared.Query.{Query}
 use Rattle.query.specs.Lines.{nodes, termOf}
-use Rattle.query.specs.Check.{unless, pairFaults, sidesOk, sameCols}
+use Rattle.query.specs.Check.{unless, pairFaults, firstPass, sidesOk, sameCols, secondPass}
 use Rattle.query.specs.Facts.{Visit, visited}
 
 -- the node of a term whose lines follow n others, with the columns of the variable around it and the fixes around it
@@ -75,3 +77,11 @@ columnFaults G (fix v a b) C n = unless (sameCols (G .width) (cols G (cols G C a
 
 abbrev pub secondAt : Schema → List Visit → Visit → List Refusal
 secondAt G before x = columnFaults G (x .term) (x .variable) (length before + 1)
+
+-- what the first pass replies for a query that reads to a term
+abbrev pub firstVerdict : Query → Verdict
+firstVerdict q = verdict (termOf (nodes q) >>= λ t. noFault (firstPass t [] [] 0))
+
+-- what the second pass replies for one that has none of 4 to 8
+abbrev pub secondVerdict : Schema → Query → Verdict
+secondVerdict G q = verdict (termOf (nodes q) >>= λ t. noFault (secondPass G t noCols 0))
