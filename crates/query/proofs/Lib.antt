@@ -19,3 +19,4 @@ pub mod ShapedNodes
 pub mod VariableSets
 pub mod FreeNodes
 pub mod ScopeNodes
+pub mod PassLoops

@@ -1,7 +1,7 @@
 -- The operands of a node, found by their places: the last ends just before the node, the first just before the last starts.
-use mathlib.Core.Path.{_≡_, refl, ap, sym, _∙_, subst}
-use mathlib.Core.List.{List, [], _∷_, _++_, map, append-assoc}
-use Prim.Native.Nat.{ℕ, _+_, _-_, _≤_, _<_}
+use mathlib.Core.Path.{_≡_, ap, sym, _∙_}
+use mathlib.Core.List.{List, [], _∷_, _++_, append-assoc}
+use Prim.Native.Nat.{ℕ, _+_, _-_, _<_}
 use native.Mathlib.Omega.{arith}
 use lib.ListN.{length, getD, length-append}
 use Rattle.algebra.specs.Term.{Term, table, var, fact, pair, filter, copy, drop, fix}
@@ -9,7 +9,7 @@ use Rattle.algebra.specs.Columns.{Cols, Schema, cols, size}
 use Rattle.query.specs.Facts.{Visit, visits}
 use Rattle.query.specs.Passes.{visit, noVisit}
 use Rattle.query.proofs.Starts.{size-pos}
-use Rattle.query.proofs.Visits.{visits-length, last-at, Block, block}
+use Rattle.query.proofs.Visits.{visits-length, last-at, block}
 
 abbrev pub lastOf : List Visit → ℕ → Visit
 lastOf vs i = getD vs (i - 1) noVisit

@@ -1,18 +1,16 @@
 -- The nodes of a query that reads to a term, as the code finds them: by index, from the lines and the starts.
-use mathlib.Core.Path.{_≡_, refl, ap, ap₂, sym, _∙_, subst}
+use mathlib.Core.Path.{_≡_, ap, ap₂, sym, _∙_, subst}
 use mathlib.Core.List.{List, [], map}
 use Prim.Native.Nat.{ℕ, _+_, _-_, _≤_, _<_}
 use native.Mathlib.Omega.{arith}
 use lib.ListN.{length, length-map, getD, set, take, drop, replicate, List·getD-append, List·getD-map}
 use lib.Seq.{take-length}
 use Rattle.laws.proofs.Passes.{filled-at, filledTo, filledTo-at, filledTo-more, getD-any}
-use Rattle.algebra.specs.Term.{Term}
-use Rattle.algebra.specs.Columns.{noCols, Schema, size}
-use Rattle.database.specs.Refusals.{Reply}
+use Rattle.algebra.specs.Columns.{noCols, Schema}
 use Rattle.query.specs.declared.Node.{Node}
 use Rattle.query.specs.declared.Node.the-variants.{Table}
 use Rattle.query.specs.declared.Query.{Query}
-use Rattle.query.specs.Lines.{nodeLimit, nodes, lines, termOf}
+use Rattle.query.specs.Lines.{nodeLimit, nodes, lines}
 use Rattle.query.specs.Facts.{Visit, visits, visited, padded}
 use Rattle.query.specs.Shape.{root, starts, Shaped}
 use Rattle.query.specs.Passes.{noVisit, visitsOf, visitAt}
@@ -20,7 +18,7 @@ use Rattle.query.proofs.TermLines.{term-lines}
 use Rattle.query.proofs.Starts.{begins-low}
 use Rattle.query.proofs.Visits.{visits-length, visits-lines, visits-starts}
 use Rattle.query.proofs.Operands.{lastOf, firstOf, NodeAt, node-at}
-use Rattle.query.proofs.Contexts.{Context, contextOf, context, node-context}
+use Rattle.query.proofs.Contexts.{contextOf, context, node-context}
 
 module _ (q : Query) (start : List ℕ) (s : Shaped q start) where
   pub start-low : (j : ℕ) → getD start j 0 ≤ j

@@ -1,19 +1,18 @@
 -- The nodes of a term in node order: each node's own nodes stand together and end with it, so its operands are found by their places.
 use mathlib.Core.Path.{_≡_, refl, ap, ap₂, sym, _∙_, subst}
 use mathlib.Core.List.{List, [], _∷_, _++_, map, append-assoc, append-nil, map-append}
-use Prim.Native.Nat.{ℕ, zero, suc, _+_, _-_, _≤_, _<_}
+use Prim.Native.Nat.{ℕ, _+_, _-_, _<_}
 use native.Mathlib.Omega.{arith}
 use native.Mathlib.Decide.{decLt}
 use lib.ListN.{length, getD, length-append}
 use lib.Seq.{getD-at}
 use Rattle.algebra.specs.Term.{Term, table, var, fact, pair, filter, copy, drop, fix}
 use Rattle.algebra.specs.Columns.{Cols, Schema, cols, size}
-use Rattle.query.specs.declared.Node.{Node}
 use Rattle.query.specs.Lines.{lines}
 use Rattle.query.specs.Facts.{Visit, visits}
 use Rattle.query.specs.Shape.{root, starts}
 use Rattle.query.specs.Passes.{visit, noVisit}
-use Rattle.query.proofs.Starts.{one-length, two-length, size-pos}
+use Rattle.query.proofs.Starts.{one-length, two-length}
 
 -- what each element of three joined lists gives
 map-one : {A B : Type 0} (f : A → B) (l : List A) (x : A) {m : List B} → map f l ≡ m → map f (l ++ (x ∷ [])) ≡ m ++ (f x ∷ [])

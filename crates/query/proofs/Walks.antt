@@ -1,16 +1,14 @@
 -- A pass over a term is a walk over its nodes.
-use mathlib.Core.Path.{_≡_, refl, ap, ap₂, sym, _∙_, subst}
-use mathlib.Core.Bool.{not}
+use mathlib.Core.Path.{_≡_, refl, ap, ap₂, sym, _∙_}
 use mathlib.Core.List.{List, [], _∷_, _++_, append-assoc, append-nil}
 use Prim.Native.Nat.{ℕ, _+_}
 use native.Mathlib.Omega.{arith}
 use lib.ListN.{length, length-append}
-use Rattle.laws.specs.Lists.{member}
 use Rattle.laws.proofs.Passes.{walk, walk-append, walk-one}
 use Rattle.algebra.specs.Term.{Term, table, var, fact, pair, filter, copy, drop, fix}
 use Rattle.algebra.specs.Columns.{Cols, Schema, cols, size, fixNumbers}
 use Rattle.database.specs.declared.Refusal.{Refusal}
-use Rattle.query.specs.Check.{unless, firstPass, secondPass}
+use Rattle.query.specs.Check.{firstPass, secondPass}
 use Rattle.query.specs.Facts.{Visit, visits}
 use Rattle.query.specs.Passes.{visit, fixNumber, numbers, scopeFaults, firstAt, columnFaults, secondAt}
 use Rattle.query.proofs.Visits.{visits-length}
