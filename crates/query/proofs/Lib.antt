@@ -20,3 +20,15 @@ pub mod VariableSets
 pub mod FreeNodes
 pub mod ScopeNodes
 pub mod PassLoops
+pub mod InOrder
+pub mod FaultRuns
+pub mod FaultOrder
+pub mod NarrowLines
+pub mod CheckReply
+pub mod CheckTests
+pub mod Checked
+pub mod CheckedOver
+pub mod Parts
+pub mod PartsFine
+pub mod SwapRead
+pub mod Replaced

@@ -1,17 +1,23 @@
--- A set of columns below w, as the code holds it and back, is itself.
-use mathlib.Core.Path.{_≡_, refl, sym, _∙_, fun-ext}
-use mathlib.Core.Bool.{true, false, _&&_}
+-- Sets of columns as the code holds them: they lie below w, and a set below w comes back as itself.
+use mathlib.Core.Path.{_≡_, sym, fun-ext}
+use mathlib.Core.Bool.{true, false}
 use mathlib.Core.Logic.{_⊎_, inl, inr}
 use Prim.Native.Nat.{ℕ, _<_}
 use native.Mathlib.Omega.{arith}
 use native.Mathlib.Decide.{decLt}
 use lib.Dec.{ltb}
-use borrow.Author.Tests.{lt-ltb, le-ltb}
+use lib.ListN.{getD}
+use borrow.Author.Tests.{ltb-true, lt-ltb, le-ltb}
+use Rattle.laws.proofs.Tests.{and-true-left}
 use Rattle.laws.proofs.RowLists.{getD-tabulate}
 use Rattle.algebra.specs.Columns.{Cols}
 use Rattle.algebra.proofs.Narrow.{Below}
+use Rattle.relation.specs.declared.Columns.{Columns}
 use Rattle.relation.specs.Rows.{colsOf, columnsOf}
 use Rattle.relation.proofs.RowMappings.{column?}
+
+pub colsOf-below : (w : ℕ) (s : Columns) → Below w (colsOf w s)
+colsOf-below w s c e = ltb-true c w (and-true-left (ltb c w) (getD (s .has) c false) e)
 
 pub columns-round : (w : ℕ) (D : Cols) → Below w D → colsOf w (columnsOf w D) ≡ D
 columns-round w D below = fun-ext λ c. elim (decLt c w) [

@@ -2,3 +2,8 @@ pub mod RenamedLines
 pub mod RuleLines
 pub mod Around
 pub mod RuleExact
+pub mod OnForm
+pub mod NodeParts
+pub mod RewriteExact
+pub mod Held
+pub mod RuleSheet

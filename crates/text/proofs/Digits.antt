@@ -116,6 +116,6 @@ digits-of-value (b ∷ l) h e z =
     ∙ elim (same? b 48) [
       | inl s ↦ zero-alone b l (s .0) z
       | inr s ↦ value-digits (b - 48) l (let d = s .0 in omega arith) (and-true-right (isDigit b) (every isDigit l) e)
-        ∙ one-digit (b - 48) (b - 48) l (omega arith)
-        ∙ ap (λ d. d ∷ l) (omega arith)
+          ∙ one-digit (b - 48) (b - 48) l (omega arith)
+          ∙ ap (λ d. d ∷ l) (omega arith)
     ]

@@ -25,7 +25,7 @@ number-digits n h =
     let small = ap (λ v. leb v maxNumber) value ∙ le-leb n maxNumber h in
     let filled = ap not (digits-null (suc n) n [] (omega arith)) in
     let on-form : onNumberForm (digits n) ≡ true =
-      and-true (and-true (and-true filled (digits-digits n)) (ap not (no-leading-zero n))) small in
+    and-true (and-true (and-true filled (digits-digits n)) (ap not (no-leading-zero n))) small in
     rw on-form (ap some value)
 
 -- what is read as a number is printed for that number
@@ -35,10 +35,9 @@ digits-number l n e =
     let (on-form, value) = kept (onNumberForm l) e in
     let (front, small) = both-true (not (null l) && every isDigit l && not (isZero l)) (leb (valueFrom 0 l) maxNumber) on-form in
     let (filled-plain, lead) = both-true (not (null l) && every isDigit l) (not (isZero l)) front in
-    let (filled, plain) = both-true (not (null l)) (every isDigit l) filled-plain in
-    (
+    let (filled, plain) = both-true (not (null l)) (every isDigit l) filled-plain in (
       ap digits (sym value) ∙ digits-of-value l (not-false (null l) filled) plain (not-false (isZero l) lead),
-      subst (λ v. v ≤ maxNumber) value (leb-true (valueFrom 0 l) maxNumber small)
+      subst (λ v. v ≤ maxNumber) value (leb-true (valueFrom 0 l) maxNumber small),
     )
 
 -- the bytes of digits are no commas and no line ends
@@ -68,7 +67,7 @@ unfolding commaDigits readAll
 numbers-digits n [] (h, _) = rw (one-part (digits n) (digits-without n comma refl)) (read-next (digits n) [] n [] (number-digits n h) refl)
 numbers-digits n (m ∷ ns) (h, k) =
     rw (more-parts (digits n) (commaDigits (m ∷ ns)) (digits-without n comma refl))
-      (read-next (digits n) (parts (commaDigits (m ∷ ns))) n (m ∷ ns) (number-digits n h) (numbers-digits m ns k))
+    (read-next (digits n) (parts (commaDigits (m ∷ ns))) n (m ∷ ns) (number-digits n h) (numbers-digits m ns k))
 
 -- parts that are read are the digits of what is read
 abbrev Parts : List (List ℕ) → List ℕ → Type 0
