@@ -1,4 +1,6 @@
 // Reading and writing document 01's text forms.
+mod numbers;
+
 use database::Database;
 use database::Verdict;
 use query::Query;
