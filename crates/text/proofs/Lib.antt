@@ -1,1 +1,3 @@
 pub mod ReaderLawsNumbers
+pub mod ReaderLawsLines
+pub mod ReaderLawsForms

@@ -1,4 +1,5 @@
 // Reading and writing document 01's text forms.
+mod lines;
 mod numbers;
 
 use database::Database;
