@@ -4,6 +4,7 @@ use mathlib.Core.Bool.{Bool, true, false, not, _&&_}
 use mathlib.Core.Option.{Option, some, none}
 use mathlib.Core.Logic.{_⊎_, inl, inr}
 use mathlib.Core.List.{List, [], _∷_}
+use Prim.Native.String.{String}
 use Prim.Native.Nat.{ℕ, suc, _+_, _-_, _≤_, _<_}
 use native.Mathlib.Omega.{arith}
 use lib.Dec.{eqb, leb, ltb}
@@ -15,32 +16,33 @@ use Rattle.laws.proofs.Tests.{same?}
 use Rattle.laws.proofs.Options.{none-some}
 use Rattle.text.specs.declared.numbers.ReadNumber.{ReadNumber}
 use Rattle.text.specs.declared.numbers.ReadNumber.the-variants.{Value, Bad}
-use Rattle.text.specs.Numbers.{comma, isDigit, isZero, maxNumber, valueFrom, number, parts, readAll, numbers}
-use Rattle.text.specs.Lines.{after, ifEmpty, ifOne, ifTwo}
-use Rattle.text.specs.Readings.{before, isWord, paired, numberReply}
+use Rattle.text.specs.declared.lines.ReadPair.the-variants as read-two
+use Rattle.text.specs.Numbers.{bytes, comma, isDigit, isZero, maxNumber, valueFrom, number, parts, readAll, numbers}
+use Rattle.text.specs.Lines.{after, numbersAfter, ifEmpty, ifOne, ifTwo, word, one, two, byForm}
+use Rattle.text.specs.Readings.{before, isWord, paired, numberReply, pairReply, numbersBehind}
 use Rattle.text.proofs.ReaderLawsLines.{before-le, tail-has, parts-more, parts-last, found-part, found-rest, found-inside, part-to-end}
 
 -- a word is a key with nothing behind it
-pub word-same : (word l : List ℕ) → length l ≡ length word → present (after word l) ≡ isWord word l
+pub word-same : (w l : List ℕ) → length l ≡ length w → present (after w l) ≡ isWord w l
 unfolding after
 word-same [] [] h = refl
 word-same [] (b ∷ l) h = let z : ⊥ = omega arith in absurd z
-word-same (k ∷ word) [] h = refl
-word-same (k ∷ word) (b ∷ l) h = by-test (eqb k b) (word-same word l (omega arith))
+word-same (k ∷ w) [] h = refl
+word-same (k ∷ w) (b ∷ l) h = by-test (eqb k b) (word-same w l (omega arith))
   where
-    by-test : (t : Bool) → present (after word l) ≡ isWord word l
-        → present (if t then after word l else none) ≡ present (ifEmpty (tt {0}) (if t then after word l else none))
+    by-test : (t : Bool) → present (after w l) ≡ isWord w l
+        → present (if t then after w l else none) ≡ present (ifEmpty (tt {0}) (if t then after w l else none))
     by-test true e = e
     by-test false e = refl
 
-pub word-other : (word l : List ℕ) → (length l ≡ length word → ⊥) → isWord word l ≡ false
+pub word-other : (w l : List ℕ) → (length l ≡ length w → ⊥) → isWord w l ≡ false
 unfolding after
 word-other [] [] h = absurd (h refl)
 word-other [] (b ∷ l) h = refl
-word-other (k ∷ word) [] h = refl
-word-other (k ∷ word) (b ∷ l) h = by-test (eqb k b) (word-other word l (λ e. h (ap suc e)))
+word-other (k ∷ w) [] h = refl
+word-other (k ∷ w) (b ∷ l) h = by-test (eqb k b) (word-other w l (λ e. h (ap suc e)))
   where
-    by-test : (t : Bool) → isWord word l ≡ false → present (ifEmpty (tt {0}) (if t then after word l else none)) ≡ false
+    by-test : (t : Bool) → isWord w l ≡ false → present (ifEmpty (tt {0}) (if t then after w l else none)) ≡ false
     by-test true e = e
     by-test false e = refl
 
@@ -170,16 +172,53 @@ pub number-some : (o : Option ℕ) (n : ℕ) → numberReply o ≡ Value n → o
 number-some none n e = let z : _≡_ {A = ℕ} 0 1 = cc in let w : ⊥ = omega arith in absurd w
 number-some (some m) n e = cc
 
+pub pair-none : (o : Option (ℕ × ℕ)) → pairReply o ≡ read-two.Bad → o ≡ none
+pair-none none e = refl
+pair-none (some p) e = let z : _≡_ {A = ℕ} 0 1 = cc in let w : ⊥ = omega arith in absurd w
+
+pub pair-some : (o : Option (ℕ × ℕ)) (a b : ℕ) → pairReply o ≡ read-two.Pair a b → o ≡ some (a, b)
+pair-some none a b e = let z : _≡_ {A = ℕ} 0 1 = cc in let w : ⊥ = omega arith in absurd w
+pair-some (some p) a b e =
+    let x : p .0 ≡ a = cc in
+    let y : p .1 ≡ b = cc in
+    ap (λ n. some (n, p .1)) x ∙ ap (λ n. some (a, n)) y
+
 -- what a form makes of its numbers
-pub one-made : {A : Type 0} (f : ℕ → A) (o : Option (List ℕ)) → ifOne f o ≡ mapped f (ifOne (λ n. n) o)
+one-made : {A : Type 0} (f : ℕ → A) (o : Option (List ℕ)) → ifOne f o ≡ mapped f (ifOne (λ n. n) o)
 one-made f none = refl
 one-made f (some []) = refl
 one-made f (some (n ∷ [])) = refl
 one-made f (some (n ∷ (m ∷ l))) = refl
 
-pub two-made : {A : Type 0} (f : ℕ → ℕ → A) (o : Option (List ℕ)) → ifTwo f o ≡ mapped (λ p. f (p .0) (p .1)) (ifTwo paired o)
+two-made : {A : Type 0} (f : ℕ → ℕ → A) (o : Option (List ℕ)) → ifTwo f o ≡ mapped (λ p. f (p .0) (p .1)) (ifTwo paired o)
 two-made f none = refl
 two-made f (some []) = refl
 two-made f (some (n ∷ [])) = refl
 two-made f (some (n ∷ (m ∷ []))) = refl
 two-made f (some (n ∷ (m ∷ (k ∷ l)))) = refl
+
+pub numbers-behind : (key : String) (l : List ℕ) → numbersAfter key l ≡ numbersBehind (bytes key) l
+unfolding numbersAfter
+numbers-behind key l = by-case (after (bytes key) l)
+  where
+    by-case : (o : Option (List ℕ)) → elim o [ none ↦ none | some digits ↦ numbers digits ] ≡ (o then numbers)
+    by-case none = refl
+    by-case (some digits) = refl
+
+pub word-form : {A : Type 0} (key : String) (a : A) (l : List ℕ) → byForm (word key a) l ≡ if isWord (bytes key) l then some a else none
+unfolding byForm
+word-form key a l = by-case (after (bytes key) l)
+  where
+    by-case : (o : Option (List ℕ)) → ifEmpty a o ≡ if present (ifEmpty (tt {0}) o) then some a else none
+    by-case none = refl
+    by-case (some []) = refl
+    by-case (some (b ∷ m)) = refl
+
+pub one-form : {A : Type 0} (key : String) (f : ℕ → A) (l : List ℕ) → byForm (one key f) l ≡ mapped f (ifOne (λ n. n) (numbersBehind (bytes key) l))
+unfolding byForm
+one-form key f l = ap (ifOne f) (numbers-behind key l) ∙ one-made f (numbersBehind (bytes key) l)
+
+pub two-form : {A : Type 0} (key : String) (f : ℕ → ℕ → A) (l : List ℕ)
+    → byForm (two key f) l ≡ mapped (λ p. f (p .0) (p .1)) (ifTwo paired (numbersBehind (bytes key) l))
+unfolding byForm
+two-form key f l = ap (ifTwo f) (numbers-behind key l) ∙ two-made f (numbersBehind (bytes key) l)

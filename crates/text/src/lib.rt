@@ -1,6 +1,9 @@
 // Reading and writing document 01's text forms.
 mod lines;
 mod numbers;
+mod steps;
+
+pub use steps::read_step;
 
 use database::Database;
 use database::Verdict;
