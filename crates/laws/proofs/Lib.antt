@@ -1,4 +1,8 @@
 pub mod Tests
 pub mod Lists
+pub mod RowLists
 pub mod Options
 pub mod Readers
+pub mod TextLists
+pub mod Faults
+pub mod PlanLists

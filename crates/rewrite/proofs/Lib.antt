@@ -2,3 +2,7 @@ pub mod RenamedLines
 pub mod RuleLines
 pub mod Around
 pub mod RuleExact
+pub mod OnForm
+pub mod NodeParts
+pub mod RewriteExact
+pub mod Held

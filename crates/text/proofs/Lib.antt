@@ -1,3 +1,6 @@
 pub mod ReaderLawsNumbers
 pub mod ReaderLawsLines
 pub mod ReaderLawsForms
+pub mod Digits
+pub mod Commas
+pub mod Numbers
