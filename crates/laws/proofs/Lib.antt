@@ -6,3 +6,4 @@ pub mod Readers
 pub mod TextLists
 pub mod Faults
 pub mod PlanLists
+pub mod Indexed
