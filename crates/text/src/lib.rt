@@ -1,9 +1,10 @@
 // Reading and writing document 01's text forms.
-mod lines;
-mod numbers;
-mod steps;
+mod line_reader;
+mod node_reader;
+mod number_reader;
+mod step_reader;
 
-pub use steps::read_step;
+pub use step_reader::read_step;
 
 use database::Database;
 use database::Verdict;

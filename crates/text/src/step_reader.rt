@@ -4,8 +4,8 @@ ghost use Rattle.text.specs.Lines.{stepLine};
 ghost use Rattle.text.specs.Replies.{stepReply};
 
 use crate::ReadStep;
-use crate::lines::ReadPair;
-use crate::lines::read_two;
+use crate::line_reader::ReadPair;
+use crate::line_reader::read_two;
 
 // A steps line without its last byte.
 pub fn read_step(line: &[u8]) -> ReadStep

@@ -10,8 +10,8 @@ use Rattle.text.specs.Lines.{ifTwo, KindNode, stepLine}
 use Rattle.text.specs.Replies.{stepReply}
 use Rattle.text.specs.Readings.{numbersBehind, paired}
 use Rattle.text.proofs.ReaderLawsForms.{two-form, pair-none, pair-some}
-use Rattle.text.proofs.steps.read_step.Statement.{statement}
-use Rattle.text.proofs.steps.read_step.Tie as tie
+use Rattle.text.proofs.step_reader.read_step.Statement.{statement}
+use Rattle.text.proofs.step_reader.read_step.Tie as tie
 
 abbrev step : ℕ → ℕ → KindNode
 step k n = record { kind = k; node = n }

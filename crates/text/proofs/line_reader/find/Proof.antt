@@ -6,8 +6,8 @@ use lib.ListN.{length, drop}
 use denote.Ref.{now}
 use Rattle.text.specs.Readings.{before}
 use Rattle.text.proofs.ReaderLawsLines.{before-here, before-later, before-end}
-use Rattle.text.proofs.lines.find.Statement.{statement}
-use Rattle.text.proofs.lines.find.Tie as tie
+use Rattle.text.proofs.line_reader.find.Statement.{statement}
+use Rattle.text.proofs.line_reader.find.Tie as tie
 
 abbrev Inv-loop : tie.InvT-loop
 Inv-loop text at b i₀ i = i + before b (drop i text) ≡ at + before b (drop at text)

@@ -7,8 +7,8 @@ ghost use Rattle.laws.specs.Options.{present};
 ghost use Rattle.text.specs.Numbers.{numbers};
 ghost use Rattle.text.specs.Readings.{numberReply, pairReply, isWord, before, numbersBehind, paired};
 
-use crate::numbers::ReadNumber;
-use crate::numbers::read_number;
+use crate::number_reader::ReadNumber;
+use crate::number_reader::read_number;
 
 // What reading two numbers replies.
 pub enum ReadPair {

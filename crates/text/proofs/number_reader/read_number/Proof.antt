@@ -6,8 +6,8 @@ use Prim.Native.Nat.{ℕ}
 use denote.Ref.{now}
 use Rattle.text.specs.Readings.{numberReply}
 use Rattle.text.proofs.ReaderLawsNumbers.{number-empty, number-zero, number-short, number-long}
-use Rattle.text.proofs.numbers.read_number.Statement.{statement}
-use Rattle.text.proofs.numbers.read_number.Tie as tie
+use Rattle.text.proofs.number_reader.read_number.Statement.{statement}
+use Rattle.text.proofs.number_reader.read_number.Tie as tie
 
 returns-3 : tie.Need-returns-3
 returns-3 c =

@@ -13,8 +13,8 @@ use Rattle.laws.proofs.Readers.{drop-next}
 use Rattle.text.specs.Numbers.{maxNumber, isDigit}
 use Rattle.text.specs.Readings.{numberReply, valueIn}
 use Rattle.text.proofs.ReaderLawsNumbers.{value-all, value-more, value-bad, value-over}
-use Rattle.text.proofs.numbers.read_digits.Statement.{statement}
-use Rattle.text.proofs.numbers.read_digits.Tie as tie
+use Rattle.text.proofs.number_reader.read_digits.Statement.{statement}
+use Rattle.text.proofs.number_reader.read_digits.Tie as tie
 
 abbrev Inv-loop : tie.InvT-loop
 Inv-loop digits value₀ i₀ value i = (i ≤ length digits) × ((value ≤ maxNumber) × (valueIn value (drop i digits) ≡ valueIn 0 digits))

@@ -6,8 +6,8 @@ use Rattle.text.specs.Numbers.{numbers}
 use Rattle.text.specs.Lines.{ifTwo}
 use Rattle.text.specs.Readings.{pairReply, paired}
 use Rattle.text.proofs.ReaderLawsLines.{after-rest, no-key, key-fits}
-use Rattle.text.proofs.lines.read_two.Statement.{statement}
-use Rattle.text.proofs.lines.read_two.Tie as tie
+use Rattle.text.proofs.line_reader.read_two.Statement.{statement}
+use Rattle.text.proofs.line_reader.read_two.Tie as tie
 
 read-pair-requires : tie.Need-read-pair-requires
 read-pair-requires c κs =

@@ -8,8 +8,8 @@ use denote.Ref.{now}
 use Rattle.text.specs.Lines.{after}
 use Rattle.laws.specs.Options.{present}
 use Rattle.text.proofs.ReaderLawsLines.{after-same, after-other, after-short}
-use Rattle.text.proofs.lines.starts.Statement.{statement}
-use Rattle.text.proofs.lines.starts.Tie as tie
+use Rattle.text.proofs.line_reader.starts.Statement.{statement}
+use Rattle.text.proofs.line_reader.starts.Tie as tie
 
 abbrev Inv-loop : tie.InvT-loop
 Inv-loop line key i₀ i = (i ≤ length key) × (after (drop i key) (drop i line) ≡ after key line)

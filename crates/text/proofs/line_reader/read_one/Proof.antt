@@ -11,8 +11,8 @@ use Rattle.text.specs.Lines.{ifOne}
 use Rattle.text.specs.Readings.{numberReply}
 use Rattle.text.proofs.ReaderLawsLines.{after-rest, no-key, key-fits, part-to-end}
 use Rattle.text.proofs.ReaderLawsForms.{one-number}
-use Rattle.text.proofs.lines.read_one.Statement.{statement}
-use Rattle.text.proofs.lines.read_one.Tie as tie
+use Rattle.text.proofs.line_reader.read_one.Statement.{statement}
+use Rattle.text.proofs.line_reader.read_one.Tie as tie
 
 fits : (c : tie.Then1) → length (now (c .before .before .before .before .args .key)) ≤ length (now (c .before .before .before .before .args .line))
 fits c = let s = c .before .before .before .before .args in key-fits (now (s .key)) (now (s .line)) (sym (c .before .starts .ensures) ∙ c .if1 .taken)

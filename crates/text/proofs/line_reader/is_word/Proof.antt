@@ -2,8 +2,8 @@ use borrow.Author.Needs.{needs}
 use mathlib.Core.Path.{sym, _∙_}
 use denote.Ref.{now}
 use Rattle.text.proofs.ReaderLawsForms.{word-same, word-other}
-use Rattle.text.proofs.lines.is_word.Statement.{statement}
-use Rattle.text.proofs.lines.is_word.Tie as tie
+use Rattle.text.proofs.line_reader.is_word.Statement.{statement}
+use Rattle.text.proofs.line_reader.is_word.Tie as tie
 
 returns : tie.Need-returns
 returns c =

@@ -11,8 +11,8 @@ use Rattle.text.specs.Lines.{ifTwo}
 use Rattle.text.specs.Readings.{pairReply, paired}
 use Rattle.text.proofs.ReaderLawsLines.{found-outside}
 use Rattle.text.proofs.ReaderLawsForms.{two-at, no-two, number-none, number-some}
-use Rattle.text.proofs.lines.read_pair.Statement.{statement}
-use Rattle.text.proofs.lines.read_pair.Tie as tie
+use Rattle.text.proofs.line_reader.read_pair.Statement.{statement}
+use Rattle.text.proofs.line_reader.read_pair.Tie as tie
 
 module _ (c : tie.Else1) where
   abbrev l : List ℕ

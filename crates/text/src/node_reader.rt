@@ -1,0 +1,102 @@
+// Reading a node line: the forms of document 01's table of lines, each tried in its turn.
+ghost use mathlib.Core.Path.{_≡_};
+ghost use Rattle.text.specs.Lines.{byForms, nodeForms};
+ghost use Rattle.text.specs.Readings.{nodeReply, leafForms, pairForms, filterForms, otherForms};
+
+use crate::line_reader::ReadPair;
+use crate::line_reader::is_word;
+use crate::line_reader::read_one;
+use crate::line_reader::read_two;
+use crate::number_reader::ReadNumber;
+use algebra::Condition;
+use algebra::Pairing;
+use query::Node;
+
+// What reading a node line replies.
+pub enum ReadNode {
+    Node(Node),
+    Bad,
+}
+
+// `table=T`, `var=V` and `fact=C,W`
+fn read_leaf(line: &[u8]) -> ReadNode
+    ensures { λ r. ⌜ r ≡ nodeReply (byForms leafForms (now (line .entry))) ⌝ }
+{
+    if let ReadNumber::Value(t) = read_one(line, b"table=") {
+        return ReadNode::Node(Node::Table(t));
+    }
+    if let ReadNumber::Value(v) = read_one(line, b"var=") {
+        return ReadNode::Node(Node::Var(v));
+    }
+    if let ReadPair::Pair(c, x) = read_two(line, b"fact=") {
+        return ReadNode::Node(Node::Fact(c, x));
+    }
+    ReadNode::Bad
+}
+
+// `pair=union`, `pair=join` and `pair=except`
+fn read_pairing(line: &[u8]) -> ReadNode
+    ensures { λ r. ⌜ r ≡ nodeReply (byForms pairForms (now (line .entry))) ⌝ }
+{
+    if is_word(line, b"pair=union") {
+        return ReadNode::Node(Node::Pair(Pairing::Union));
+    }
+    if is_word(line, b"pair=join") {
+        return ReadNode::Node(Node::Pair(Pairing::Join));
+    }
+    if is_word(line, b"pair=except") {
+        return ReadNode::Node(Node::Pair(Pairing::Except));
+    }
+    ReadNode::Bad
+}
+
+// `eq=C,W`, `ne=C,W`, `max=C,W` and `same=C,D`
+fn read_filter(line: &[u8]) -> ReadNode
+    ensures { λ r. ⌜ r ≡ nodeReply (byForms filterForms (now (line .entry))) ⌝ }
+{
+    if let ReadPair::Pair(c, x) = read_two(line, b"eq=") {
+        return ReadNode::Node(Node::Filter(Condition::Eq(c, x)));
+    }
+    if let ReadPair::Pair(c, x) = read_two(line, b"ne=") {
+        return ReadNode::Node(Node::Filter(Condition::Ne(c, x)));
+    }
+    if let ReadPair::Pair(c, x) = read_two(line, b"max=") {
+        return ReadNode::Node(Node::Filter(Condition::Max(c, x)));
+    }
+    if let ReadPair::Pair(c, d) = read_two(line, b"same=") {
+        return ReadNode::Node(Node::Filter(Condition::Same(c, d)));
+    }
+    ReadNode::Bad
+}
+
+// `copy=A,B`, `drop=A` and `fix=V`
+fn read_other(line: &[u8]) -> ReadNode
+    ensures { λ r. ⌜ r ≡ nodeReply (byForms otherForms (now (line .entry))) ⌝ }
+{
+    if let ReadPair::Pair(a, b) = read_two(line, b"copy=") {
+        return ReadNode::Node(Node::Copy(a, b));
+    }
+    if let ReadNumber::Value(a) = read_one(line, b"drop=") {
+        return ReadNode::Node(Node::Drop(a));
+    }
+    if let ReadNumber::Value(v) = read_one(line, b"fix=") {
+        return ReadNode::Node(Node::Fix(v));
+    }
+    ReadNode::Bad
+}
+
+// The first form that the line has, its numbers in range or not.
+fn read_form(line: &[u8]) -> ReadNode
+    ensures { λ r. ⌜ r ≡ nodeReply (byForms nodeForms (now (line .entry))) ⌝ }
+{
+    if let ReadNode::Node(n) = read_leaf(line) {
+        return ReadNode::Node(n);
+    }
+    if let ReadNode::Node(n) = read_pairing(line) {
+        return ReadNode::Node(n);
+    }
+    if let ReadNode::Node(n) = read_filter(line) {
+        return ReadNode::Node(n);
+    }
+    read_other(line)
+}
