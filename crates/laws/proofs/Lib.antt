@@ -6,4 +6,5 @@ pub mod Readers
 pub mod TextLists
 pub mod Faults
 pub mod PlanLists
+pub mod Passes
 pub mod Indexed
