@@ -1,6 +1,7 @@
 // Reading a node line: the forms of document 01's table of lines, each tried in its turn.
 ghost use mathlib.Core.Path.{_≡_};
-ghost use Rattle.text.specs.Lines.{byForms, nodeForms};
+ghost use Rattle.relation.specs.Rows.{columns};
+ghost use Rattle.text.specs.Lines.{byForms, nodeForms, nodeLine};
 ghost use Rattle.text.specs.Readings.{nodeReply, leafForms, pairForms, filterForms, otherForms};
 
 use crate::line_reader::ReadPair;
@@ -11,6 +12,7 @@ use crate::number_reader::ReadNumber;
 use algebra::Condition;
 use algebra::Pairing;
 use query::Node;
+use query::forms::on_form;
 
 // What reading a node line replies.
 pub enum ReadNode {
@@ -99,4 +101,18 @@ fn read_form(line: &[u8]) -> ReadNode
         return ReadNode::Node(n);
     }
     read_other(line)
+}
+
+// A node line, its numbers in range.
+pub(crate) fn read_node(line: &[u8]) -> ReadNode
+    ensures { λ r. ⌜ r ≡ nodeReply (nodeLine columns (now (line .entry))) ⌝ }
+{
+    let ReadNode::Node(n) = read_form(line) else {
+        return ReadNode::Bad;
+    };
+    if on_form(n) {
+        ReadNode::Node(n)
+    } else {
+        ReadNode::Bad
+    }
 }
