@@ -4,3 +4,4 @@ pub mod ReaderLawsForms
 pub mod Digits
 pub mod Commas
 pub mod Numbers
+pub mod ReaderLawsDue

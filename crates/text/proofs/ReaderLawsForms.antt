@@ -166,19 +166,19 @@ module _ {A : Type 0} (f : ℕ → ℕ → A) where
       ∙ ap (λ r. number (take (e - at) (drop at l)) then (λ n. mapped (f n) (number r))) (found-rest comma l at e q ∙ sym (part-to-end l (e + 1)))
 
 -- the number that a reply tells of
-pub number-none : (o : Option ℕ) → numberReply o ≡ Bad → o ≡ none
+pub number-none : (o : Option ℕ) → Bad ≡ numberReply o → o ≡ none
 number-none none e = refl
 number-none (some n) e = let z : _≡_ {A = ℕ} 0 1 = cc in let w : ⊥ = omega arith in absurd w
 
-pub number-some : (o : Option ℕ) (n : ℕ) → numberReply o ≡ Value n → o ≡ some n
+pub number-some : (o : Option ℕ) (n : ℕ) → Value n ≡ numberReply o → o ≡ some n
 number-some none n e = let z : _≡_ {A = ℕ} 0 1 = cc in let w : ⊥ = omega arith in absurd w
 number-some (some m) n e = cc
 
-pub pair-none : (o : Option (ℕ × ℕ)) → pairReply o ≡ read-two.Bad → o ≡ none
+pub pair-none : (o : Option (ℕ × ℕ)) → read-two.Bad ≡ pairReply o → o ≡ none
 pair-none none e = refl
 pair-none (some p) e = let z : _≡_ {A = ℕ} 0 1 = cc in let w : ⊥ = omega arith in absurd w
 
-pub pair-some : (o : Option (ℕ × ℕ)) (a b : ℕ) → pairReply o ≡ read-two.Pair a b → o ≡ some (a, b)
+pub pair-some : (o : Option (ℕ × ℕ)) (a b : ℕ) → read-two.Pair a b ≡ pairReply o → o ≡ some (a, b)
 pair-some none a b e = let z : _≡_ {A = ℕ} 0 1 = cc in let w : ⊥ = omega arith in absurd w
 pair-some (some p) a b e =
     let x : p .0 ≡ a = cc in
@@ -215,7 +215,7 @@ numbers-behind key l = by-case (after (bytes key) l)
     by-case none = refl
     by-case (some digits) = refl
 
-word-form : {A : Type 0} (key : String) (a : A) (l : List ℕ) → byForm (word key a) l ≡ if isWord (bytes key) l then some a else none
+pub word-form : {A : Type 0} (key : String) (a : A) (l : List ℕ) → byForm (word key a) l ≡ if isWord (bytes key) l then some a else none
 unfolding byForm
 word-form key a l = by-case (after (bytes key) l)
   where
@@ -224,7 +224,7 @@ word-form key a l = by-case (after (bytes key) l)
     by-case (some []) = refl
     by-case (some (b ∷ m)) = refl
 
-one-form : {A : Type 0} (key : String) (f : ℕ → A) (l : List ℕ) → byForm (one key f) l ≡ mapped f (ifOne (λ n. n) (numbersBehind (bytes key) l))
+pub one-form : {A : Type 0} (key : String) (f : ℕ → A) (l : List ℕ) → byForm (one key f) l ≡ mapped f (ifOne (λ n. n) (numbersBehind (bytes key) l))
 unfolding byForm
 one-form key f l = ap (ifOne f) (numbers-behind key l) ∙ one-made f (numbersBehind (bytes key) l)
 
@@ -253,10 +253,10 @@ module _ {A : Type 0} (key : String) (f : ℕ → A) (forms : List (Form A)) (l 
   one-read = ifOne (λ n. n) (numbersBehind (bytes key) l)
 
   pub one-taken : (n : ℕ) → Value n ≡ numberReply one-read → byForms (one key f ∷ forms) l ≡ some (f n)
-  one-taken n e = taken (one key f) forms l (f n) (one-form key f l ∙ ap (mapped f) (number-some one-read n (sym e)))
+  one-taken n e = taken (one key f) forms l (f n) (one-form key f l ∙ ap (mapped f) (number-some one-read n e))
 
   pub one-passed : Bad ≡ numberReply one-read → byForms (one key f ∷ forms) l ≡ byForms forms l
-  one-passed e = passed (one key f) forms l (one-form key f l ∙ ap (mapped f) (number-none one-read (sym e)))
+  one-passed e = passed (one key f) forms l (one-form key f l ∙ ap (mapped f) (number-none one-read e))
 
 module _ {A : Type 0} (key : String) (f : ℕ → ℕ → A) (forms : List (Form A)) (l : List ℕ) where
   abbrev two-read : Option (ℕ × ℕ)
@@ -266,10 +266,10 @@ module _ {A : Type 0} (key : String) (f : ℕ → ℕ → A) (forms : List (Form
   made p = f (p .0) (p .1)
 
   pub two-taken : (a b : ℕ) → read-two.Pair a b ≡ pairReply two-read → byForms (two key f ∷ forms) l ≡ some (f a b)
-  two-taken a b e = taken (two key f) forms l (f a b) (two-form key f l ∙ ap (mapped made) (pair-some two-read a b (sym e)))
+  two-taken a b e = taken (two key f) forms l (f a b) (two-form key f l ∙ ap (mapped made) (pair-some two-read a b e))
 
   pub two-passed : read-two.Bad ≡ pairReply two-read → byForms (two key f ∷ forms) l ≡ byForms forms l
-  two-passed e = passed (two key f) forms l (two-form key f l ∙ ap (mapped made) (pair-none two-read (sym e)))
+  two-passed e = passed (two key f) forms l (two-form key f l ∙ ap (mapped made) (pair-none two-read e))
 
 module _ {A : Type 0} (key : String) (a : A) (forms : List (Form A)) (l : List ℕ) where
   pub word-taken : isWord (bytes key) l ≡ true → byForms (word key a ∷ forms) l ≡ some a

@@ -3,3 +3,4 @@ pub mod Lines
 pub mod Texts
 pub mod Replies
 pub mod Readings
+pub mod Cursors

@@ -5,6 +5,7 @@ ghost use lib.ListN.{length, drop};
 ghost use Rattle.text.specs.Lines.{after, ifOne, ifTwo};
 ghost use Rattle.laws.specs.Options.{present};
 ghost use Rattle.text.specs.Numbers.{numbers};
+ghost use Rattle.text.specs.Cursors.{Placed, dueLine, wordForm, wordReply, countForm, countReply};
 ghost use Rattle.text.specs.Readings.{numberReply, pairReply, isWord, before, numbersBehind, paired};
 
 use crate::number_reader::ReadNumber;
@@ -13,6 +14,24 @@ use crate::number_reader::read_number;
 // What reading two numbers replies.
 pub enum ReadPair {
     Pair(u32, u32),
+    Bad,
+}
+
+// A place in a text, and the number of the line that begins there.
+pub struct Cursor {
+    pub at: usize,
+    pub line: usize,
+}
+
+// What a due line that is a word replies.
+pub enum DueWord {
+    Next(Cursor),
+    Bad,
+}
+
+// What a due line with a count replies.
+pub enum DueCount {
+    Count(u32, Cursor),
     Bad,
 }
 
@@ -101,4 +120,60 @@ fn read_pair(line: &[u8], at: usize) -> ReadPair
         return ReadPair::Bad;
     };
     ReadPair::Pair(a, b)
+}
+
+// A due line that is a word.
+pub(crate) fn due_word(text: &[u8], c: Cursor, word: &[u8]) -> DueWord
+    requires { ⌜ Placed c ⌝ }
+    ensures { λ r. ⌜ r ≡ wordReply (dueLine (wordForm (now (word .entry))) (now (text .entry)) c) ⌝ }
+{
+    let at = c.at;
+    let end = find(text, at, b'\n');
+    if text.len() <= end {
+        return DueWord::Bad;
+    }
+    if is_word(&text[at..end], word) {
+        DueWord::Next(Cursor {
+            at: end + 1,
+            line: c.line + 1,
+        })
+    } else {
+        DueWord::Bad
+    }
+}
+
+// A key and one number, at most a given one.
+fn read_count(line: &[u8], key: &[u8], most: u32) -> ReadNumber
+    ensures { λ r. ⌜ r ≡ numberReply (countForm (now (key .entry)) most (now (line .entry))) ⌝ }
+{
+    let ReadNumber::Value(n) = read_one(line, key) else {
+        return ReadNumber::Bad;
+    };
+    if n <= most {
+        ReadNumber::Value(n)
+    } else {
+        ReadNumber::Bad
+    }
+}
+
+// A due line with a count.
+pub(crate) fn due_count(text: &[u8], c: Cursor, key: &[u8], most: u32) -> DueCount
+    requires { ⌜ Placed c ⌝ }
+    ensures { λ r. ⌜ r ≡ countReply (dueLine (countForm (now (key .entry)) most) (now (text .entry)) c) ⌝ }
+{
+    let at = c.at;
+    let end = find(text, at, b'\n');
+    if text.len() <= end {
+        return DueCount::Bad;
+    }
+    let ReadNumber::Value(n) = read_count(&text[at..end], key, most) else {
+        return DueCount::Bad;
+    };
+    DueCount::Count(
+        n,
+        Cursor {
+            at: end + 1,
+            line: c.line + 1,
+        },
+    )
 }

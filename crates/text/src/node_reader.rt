@@ -2,9 +2,12 @@
 ghost use mathlib.Core.Path.{_≡_};
 ghost use Rattle.relation.specs.Rows.{columns};
 ghost use Rattle.text.specs.Lines.{byForms, nodeForms, nodeLine};
+ghost use Rattle.text.specs.Cursors.{Placed, dueLine, nodeDue};
 ghost use Rattle.text.specs.Readings.{nodeReply, leafForms, pairForms, filterForms, otherForms};
 
+use crate::line_reader::Cursor;
 use crate::line_reader::ReadPair;
+use crate::line_reader::find;
 use crate::line_reader::is_word;
 use crate::line_reader::read_one;
 use crate::line_reader::read_two;
@@ -17,6 +20,12 @@ use query::forms::on_form;
 // What reading a node line replies.
 pub enum ReadNode {
     Node(Node),
+    Bad,
+}
+
+// What a due node line replies.
+pub enum DueNode {
+    Next(Node, Cursor),
     Bad,
 }
 
@@ -115,4 +124,26 @@ pub(crate) fn read_node(line: &[u8]) -> ReadNode
     } else {
         ReadNode::Bad
     }
+}
+
+// A due node line.
+pub(crate) fn due_node(text: &[u8], c: Cursor) -> DueNode
+    requires { ⌜ Placed c ⌝ }
+    ensures { λ r. ⌜ r ≡ nodeDue (dueLine (nodeLine columns) (now (text .entry)) c) ⌝ }
+{
+    let at = c.at;
+    let end = find(text, at, b'\n');
+    if text.len() <= end {
+        return DueNode::Bad;
+    }
+    let ReadNode::Node(n) = read_node(&text[at..end]) else {
+        return DueNode::Bad;
+    };
+    DueNode::Next(
+        n,
+        Cursor {
+            at: end + 1,
+            line: c.line + 1,
+        },
+    )
 }

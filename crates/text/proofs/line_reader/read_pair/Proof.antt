@@ -46,20 +46,20 @@ returns c =
 returns-2 : tie.Need-returns-2
 returns-2 c =
     let t = c .before .before .before .before in
-    replied t none (second t) (number-none (first t) (sym (c .before .before .read-number .ensures) ∙ c .enum-told .given .1)) refl
+    replied t none (second t) (number-none (first t) (sym (c .enum-told .given .1) ∙ c .before .before .read-number .ensures)) refl
 
 -- the first number is read
 first-read : (c : tie.After-known-told) → first (c .before .before .before .before .before) ≡ some (c .before .a .given .0 .0)
 first-read c =
     number-some (first (c .before .before .before .before .before)) (c .before .a .given .0 .0)
-    (sym (c .before .before .before .read-number .ensures) ∙ c .before .a .given .1)
+    (sym (c .before .a .given .1) ∙ c .before .before .before .read-number .ensures)
 
 returns-3 : tie.Need-returns-3
 returns-3 c =
     let d = c .before .before .before .before in
     let t = d .before .before .before .before .before in
     replied t (some (d .before .a .given .0 .0)) none (first-read d)
-    (number-none (second t) (sym (c .before .before .read-number2 .ensures) ∙ c .enum-told2 .given .1))
+    (number-none (second t) (sym (c .enum-told2 .given .1) ∙ c .before .before .read-number2 .ensures))
 
 returns-4 : tie.Need-returns-4
 returns-4 c =
@@ -67,7 +67,7 @@ returns-4 c =
     let t = d .before .before .before .before .before in
     let b = c .before .b .given in
     replied t (some (d .before .a .given .0 .0)) (some (b .0 .0)) (first-read d)
-    (number-some (second t) (b .0 .0) (sym (c .before .before .before .read-number2 .ensures) ∙ b .1))
+    (number-some (second t) (b .0 .0) (sym (b .1) ∙ c .before .before .before .read-number2 .ensures))
 
 pub read-pair-spec : {M : Type 1} → statement M
 read-pair-spec =

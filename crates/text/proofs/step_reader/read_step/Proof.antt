@@ -26,14 +26,14 @@ returns : tie.Need-returns
 unfolding bytes
 returns c =
     let l : List ℕ = now (c .before .before .before .before .before .args .line) in
-    replied l none (pair-none (read l) (sym (c .before .before .read-two .ensures) ∙ c .enum-told .given .1))
+    replied l none (pair-none (read l) (sym (c .enum-told .given .1) ∙ c .before .before .read-two .ensures))
 
 returns-2 : tie.Need-returns-2
 unfolding bytes
 returns-2 c =
     let l : List ℕ = now (c .before .before .before .before .before .before .args .line) in
     let g = c .before .kind .given in
-    replied l (some (g .0 .0, g .0 .1 .0)) (pair-some (read l) (g .0 .0) (g .0 .1 .0) (sym (c .before .before .before .read-two .ensures) ∙ g .1))
+    replied l (some (g .0 .0, g .0 .1 .0)) (pair-some (read l) (g .0 .0) (g .0 .1 .0) (sym (g .1) ∙ c .before .before .before .read-two .ensures))
 
 pub read-step-spec : {M : Type 1} → statement M
 read-step-spec =
