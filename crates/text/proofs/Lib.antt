@@ -5,3 +5,5 @@ pub mod Digits
 pub mod Commas
 pub mod Numbers
 pub mod ReaderLawsDue
+pub mod ReaderLawsMany
+pub mod ReaderLawsQuery

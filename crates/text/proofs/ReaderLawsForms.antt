@@ -1,6 +1,6 @@
 -- Words, and numbers behind a key.
 use mathlib.Core.Path.{_≡_, refl, ap, sym, _∙_}
-use mathlib.Core.Bool.{Bool, true, false, not, _&&_}
+use mathlib.Core.Bool.{Bool, true, false, not, _&&_, and-false}
 use mathlib.Core.Option.{Option, some, none}
 use mathlib.Core.Logic.{_⊎_, inl, inr}
 use mathlib.Core.List.{List, [], _∷_, _++_}
@@ -90,6 +90,7 @@ some-number l = elim (comma? l) [
     more none p = refl
     more (some n) none = refl
     more (some n) (some ns) = refl
+
     last : (o : Option ℕ) → ifEmpty (tt {0}) (mapped (λ n. n ∷ []) o) ≡ none
     last none = refl
     last (some n) = refl
@@ -100,12 +101,8 @@ unfolding every
 comma-bad [] h = let z : ⊥ = omega (arith, before-le comma []) in absurd z
 comma-bad (c ∷ l) h = elim (same? c comma) [
   | inl s ↦ rw (s .0)
-  | inr s ↦ rw (comma-bad l (tail-has comma c l (s .0) h)) (and-no (isDigit c))
+  | inr s ↦ rw (comma-bad l (tail-has comma c l (s .0) h)) (and-false (isDigit c))
 ]
-  where
-    and-no : (t : Bool) → t && false ≡ false
-    and-no true = refl
-    and-no false = refl
 
 number-comma : (l : List ℕ) → before comma l < length l → number l ≡ none
 unfolding number
@@ -118,7 +115,7 @@ number-comma l h = rw (comma-bad l h) (by-test (not (null l)))
 pub one-number : (l : List ℕ) → ifOne (λ n. n) (numbers l) ≡ number l
 one-number l = elim (comma? l) [
   | inl h ↦ rw (numbers-more l h, number-comma l h)
-    (more (number (take (before comma l) l)) (numbers (drop (suc (before comma l)) l)) (some-number (drop (suc (before comma l)) l)))
+      (more (number (take (before comma l) l)) (numbers (drop (suc (before comma l)) l)) (some-number (drop (suc (before comma l)) l)))
   | inr h ↦ rw (numbers-last l h) (last (number l))
 ]
   where
@@ -127,6 +124,7 @@ one-number l = elim (comma? l) [
     more (some n) none e = refl
     more (some n) (some []) e = none-some (sym e)
     more (some n) (some (m ∷ ns)) e = refl
+
     last : (o : Option ℕ) → ifOne (λ n. n) (mapped (λ n. n ∷ []) o) ≡ o
     last none = refl
     last (some n) = refl
@@ -145,6 +143,7 @@ module _ {A : Type 0} (f : ℕ → ℕ → A) where
     where
       rest : List ℕ
       rest = drop (suc (before comma l)) l
+
       by-case : (o : Option ℕ) → ifTwo f (o then (λ n. mapped (λ ns. n ∷ ns) (numbers rest))) ≡ (o then (λ n. mapped (f n) (number rest)))
       by-case none = refl
       by-case (some n) = behind-first n (numbers rest) ∙ ap (mapped (f n)) (one-number rest)

@@ -13,9 +13,11 @@ use Rattle.text.specs.declared.line_reader.DueWord.{DueWord}
 use Rattle.text.specs.declared.line_reader.DueWord.the-variants as word
 use Rattle.text.specs.declared.line_reader.DueCount.{DueCount}
 use Rattle.text.specs.declared.line_reader.DueCount.the-variants as count
+use Rattle.text.specs.declared.line_reader.Opened.{Opened}
+use Rattle.text.specs.declared.line_reader.Opened.the-variants as opened
 use Rattle.text.specs.declared.node_reader.DueNode.{DueNode}
 use Rattle.text.specs.declared.node_reader.DueNode.the-variants as node
-use Rattle.text.specs.Numbers.{newline}
+use Rattle.text.specs.Numbers.{bytes, newline}
 use Rattle.text.specs.Lines.{Rest, ifOne, inRange}
 use Rattle.text.specs.Readings.{before, isWord, numbersBehind}
 
@@ -58,3 +60,18 @@ wordForm s l = if isWord s l then some tt else none
 
 abbrev pub countForm : List ℕ → ℕ → List ℕ → Option ℕ
 countForm key most l = inRange (λ n. leb n most) (ifOne (λ n. n) (numbersBehind key l))
+
+-- the lines that open a text: "`guide=1`", and a line with a count
+abbrev pub start : Cursor
+start = record { at = 0; line = 1 }
+
+abbrev pub counted : Cursor → Option (ℕ × Cursor) → Opened
+counted c none = opened.Bad (c .line)
+counted c (some p) = opened.Count (p .0) (p .1)
+
+abbrev pub headed : List ℕ → ℕ → List ℕ → Option (Unit {0} × Cursor) → Opened
+headed key most text none = opened.Bad (start .line)
+headed key most text (some p) = counted (p .1) (dueLine (countForm key most) text (p .1))
+
+abbrev pub openedAt : List ℕ → ℕ → List ℕ → Opened
+openedAt key most text = headed key most text (dueLine (wordForm (bytes "guide=1")) text start)

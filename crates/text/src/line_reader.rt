@@ -5,9 +5,8 @@ ghost use lib.ListN.{length, drop};
 ghost use Rattle.text.specs.Lines.{after, ifOne, ifTwo};
 ghost use Rattle.laws.specs.Options.{present};
 ghost use Rattle.text.specs.Numbers.{numbers};
-ghost use Rattle.text.specs.Cursors.{Placed, dueLine, wordForm, wordReply, countForm, countReply};
+ghost use Rattle.text.specs.Cursors.{Placed, dueLine, wordForm, wordReply, countForm, countReply, openedAt};
 ghost use Rattle.text.specs.Readings.{numberReply, pairReply, isWord, before, numbersBehind, paired};
-
 use crate::number_reader::ReadNumber;
 use crate::number_reader::read_number;
 
@@ -33,6 +32,12 @@ pub enum DueWord {
 pub enum DueCount {
     Count(u32, Cursor),
     Bad,
+}
+
+// What the two lines that open a text reply: the count and the line behind them, or the first bad line.
+pub enum Opened {
+    Count(u32, Cursor),
+    Bad(usize),
 }
 
 // Where a byte stands first from a position on, or the end of the text.
@@ -176,4 +181,18 @@ pub(crate) fn due_count(text: &[u8], c: Cursor, key: &[u8], most: u32) -> DueCou
             line: c.line + 1,
         },
     )
+}
+
+// The lines that open a text: `guide=1`, and a line with a count.
+pub(crate) fn read_opening(text: &[u8], key: &[u8], most: u32) -> Opened
+    ensures { λ r. ⌜ r ≡ openedAt (now (key .entry)) most (now (text .entry)) ⌝ }
+{
+    let start = Cursor { at: 0, line: 1 };
+    let DueWord::Next(second) = due_word(text, start, b"guide=1") else {
+        return Opened::Bad(1);
+    };
+    let DueCount::Count(n, third) = due_count(text, second, key, most) else {
+        return Opened::Bad(second.line);
+    };
+    Opened::Count(n, third)
 }

@@ -4,7 +4,6 @@ ghost use Rattle.relation.specs.Rows.{columns};
 ghost use Rattle.text.specs.Lines.{byForms, nodeForms, nodeLine};
 ghost use Rattle.text.specs.Cursors.{Placed, dueLine, nodeDue};
 ghost use Rattle.text.specs.Readings.{nodeReply, leafForms, pairForms, filterForms, otherForms};
-
 use crate::line_reader::Cursor;
 use crate::line_reader::ReadPair;
 use crate::line_reader::find;

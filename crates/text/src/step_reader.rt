@@ -2,7 +2,6 @@
 ghost use mathlib.Core.Path.{_≡_};
 ghost use Rattle.text.specs.Lines.{stepLine};
 ghost use Rattle.text.specs.Replies.{stepReply};
-
 use crate::ReadStep;
 use crate::line_reader::ReadPair;
 use crate::line_reader::read_two;

@@ -41,7 +41,7 @@ missing c =
 
 tested : (c : tie.After-is-word) (b : Bool) → c .is-word .result ≡ b
     → let t = c .before .before in
-      wordReply (mapped (λ a. (a, behindLine (cursor t) (end t))) (if b then some tt else none)) ≡ wordReply (dueLine (form t) (text t) (cursor t))
+    wordReply (mapped (λ a. (a, behindLine (cursor t) (end t))) (if b then some tt else none)) ≡ wordReply (dueLine (form t) (text t) (cursor t))
 tested c b e = replied (c .before .before) (if b then some tt else none) (ap (λ t. if t then some tt else none) (sym (c .is-word .ensures) ∙ e))
 
 pub due-word-spec : {M : Type 1} → statement M

@@ -28,12 +28,12 @@ find-spec =
     (λ c. refl)
     (λ c. omega arith)
     (λ c.
-      let t = c .before .before in
-      let s = t .before .before .args in
-      omega (arith, before-here (s .b) (now (s .text)) (t .before .loop .i) (t .loop-test .taken) (c .if1 .taken), t .before .loop .inv))
+    let t = c .before .before in
+    let s = t .before .before .args in
+    omega (arith, before-here (s .b) (now (s .text)) (t .before .loop .i) (t .loop-test .taken) (c .if1 .taken), t .before .loop .inv))
     (λ c. omega arith)
     (λ c. omega arith)
     loop-again
     (λ c.
-      let s = c .before .before .args in
-      omega (arith, before-end (s .b) (now (s .text)) (c .before .loop .i) (c .loop-test .left), c .before .loop .inv)))
+    let s = c .before .before .args in
+    omega (arith, before-end (s .b) (now (s .text)) (c .before .loop .i) (c .loop-test .left), c .before .loop .inv)))

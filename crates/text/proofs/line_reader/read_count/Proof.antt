@@ -26,7 +26,7 @@ module _ (s : tie.Start) where
 
 tested : (c : tie.After-known-told) (b : Bool) → leb (c .before .n .given .0 .0) (c .before .before .before .before .before .before .args .most) ≡ b
     → let s = c .before .before .before .before .before .before .args in
-      numberReply (if b then some (c .before .n .given .0 .0) else none) ≡ numberReply (countForm (now (s .key)) (s .most) (now (s .line)))
+    numberReply (if b then some (c .before .n .given .0 .0) else none) ≡ numberReply (countForm (now (s .key)) (s .most) (now (s .line)))
 tested c b e =
     let s = c .before .before .before .before .before .before in
     let g = c .before .n .given in
@@ -38,7 +38,7 @@ read-count-spec =
     tie.close
     (tie.spec (λ c κs. search needs) (λ c. search needs) (λ c. search needs)
     (λ c.
-      let s = c .before .before .before .before .before in
-      replied s none (number-none (read s) (sym (c .enum-told .given .1) ∙ c .before .before .read-one .ensures)))
+    let s = c .before .before .before .before .before in
+    replied s none (number-none (read s) (sym (c .enum-told .given .1) ∙ c .before .before .read-one .ensures)))
     (λ c. tested (c .before) true (le-leb _ _ (c .if1 .taken)))
     (λ c. tested (c .before) false (lt-leb _ _ (c .if1 .left))))

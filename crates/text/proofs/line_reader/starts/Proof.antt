@@ -20,9 +20,10 @@ abbrev μ-loop : tie.MeasureT-loop
 loop-again : tie.Need-loop-again Inv-loop μ-loop
 loop-again c =
     let t = c .before .before .before in
-    let s = t .before .before .before .args in
-    (omega arith,
-    sym (after-same (now (s .key)) (now (s .line)) (t .before .loop .i) (t .loop-test .taken) (omega arith) (c .if2 .left)) ∙ t .before .loop .inv .1)
+    let s = t .before .before .before .args in (
+      omega arith,
+      sym (after-same (now (s .key)) (now (s .line)) (t .before .loop .i) (t .loop-test .taken) (omega arith) (c .if2 .left)) ∙ t .before .loop .inv .1,
+    )
 
 returns : tie.Need-returns-3 Inv-loop μ-loop
 unfolding after
@@ -40,11 +41,11 @@ starts-spec =
     (λ c. omega arith)
     (λ c. omega arith)
     (λ c.
-      let t = c .before .before .before in
-      let s = t .before .before .before .args in
-      ap present
-      (sym (after-other (now (s .key)) (now (s .line)) (t .before .loop .i) (t .loop-test .taken) (omega arith) (c .if2 .taken))
-      ∙ t .before .loop .inv .1))
+    let t = c .before .before .before in
+    let s = t .before .before .before .args in
+    ap present
+    (sym (after-other (now (s .key)) (now (s .line)) (t .before .loop .i) (t .loop-test .taken) (omega arith) (c .if2 .taken))
+    ∙ t .before .loop .inv .1))
     (λ c. omega arith)
     (λ c. omega arith)
     loop-again

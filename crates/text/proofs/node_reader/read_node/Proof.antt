@@ -27,7 +27,7 @@ returns c =
 
 tested : (c : tie.After-on-form) (b : Bool) → c .on-form .result ≡ b
     → let n = c .before .before .n .given .0 .0 in
-      nodeReply (if b then some n else none) ≡ nodeReply (nodeLine columns (now (c .before .before .before .before .before .before .args .line)))
+    nodeReply (if b then some n else none) ≡ nodeReply (nodeLine columns (now (c .before .before .before .before .before .before .args .line)))
 tested c b e =
     let l : List ℕ = now (c .before .before .before .before .before .before .args .line) in
     let g = c .before .before .n .given in

@@ -47,11 +47,14 @@ module _ (c : tie.In-loop Inv-loop μ-loop) where
 
 loop-again : tie.Need-loop-again Inv-loop μ-loop
 loop-again c =
-    let t = c .before .before .before .before .before in
-    (omega arith,
-    (omega arith,
-    ap (λ d. valueIn (value t * 10 + d) (rest t)) (c .before .wide .ensures)
-    ∙ sym (digit t (c .before .before .before .if1 .left) (c .before .before .if2 .left)) ∙ next t))
+    let t = c .before .before .before .before .before in (
+      omega arith,
+      (
+        omega arith,
+        ap (λ d. valueIn (value t * 10 + d) (rest t)) (c .before .wide .ensures)
+            ∙ sym (digit t (c .before .before .before .if1 .left) (c .before .before .if2 .left)) ∙ next t,
+      ),
+    )
 
 pub read-digits-spec : {M : Type 1} → statement M
 read-digits-spec =
@@ -65,16 +68,16 @@ read-digits-spec =
     (λ c. omega arith)
     (λ c. omega (arith, c .wide .ensures))
     (λ c.
-      let t = c .before .before .before .before .before in
-      stops t
-      (digit t (c .before .before .before .if1 .left) (c .before .before .if2 .left)
-      ∙ value-over (value t * 10 + (b t - 48)) (rest t) (omega (arith, c .before .wide .ensures, c .if3 .taken))))
+    let t = c .before .before .before .before .before in
+    stops t
+    (digit t (c .before .before .before .if1 .left) (c .before .before .if2 .left)
+    ∙ value-over (value t * 10 + (b t - 48)) (rest t) (omega (arith, c .before .wide .ensures, c .if3 .taken))))
     (λ c. omega arith)
     (λ c. omega arith)
     loop-again
     (λ c. omega arith)
     (λ c.
-      ap numberReply
-      (sym (ap (valueIn (c .before .loop .value)) (drop-of-length-le (now (c .before .before .before .args .digits)) (c .loop-test .left))
-      ∙ value-all (c .before .loop .value) (c .before .loop .inv .1 .0))
-      ∙ c .before .loop .inv .1 .1)))
+    ap numberReply
+    (sym (ap (valueIn (c .before .loop .value)) (drop-of-length-le (now (c .before .before .before .args .digits)) (c .loop-test .left))
+    ∙ value-all (c .before .loop .value) (c .before .loop .inv .1 .0))
+    ∙ c .before .loop .inv .1 .1)))
