@@ -48,7 +48,7 @@ lines-first : (ns : List Node) (rest : List Line) → map (λ (l : Line). l .nod
 lines-first [] rest = refl
 lines-first (x ∷ ns) rest = ap (λ (l : List Node). x ∷ l) (lines-first ns rest)
 
-lines-back : (q : Query) (ns : List Node) → nodes (withNodes q ns) ≡ ns
+pub lines-back : (q : Query) (ns : List Node) → nodes (withNodes q ns) ≡ ns
 lines-back q ns = lines-first ns (dropFirst (length ns) (q .lines))
 
 few-nodes : (q : Query) → length (nodes q) ≤ q .count
@@ -103,7 +103,7 @@ module _ (w limit : ℕ) (q : Query) (d : Database) (store : List ℕ) (t : Term
   redex-narrow = subst (Narrow G) (matched k a (x .matches)) narrow
 
   -- the node is closed: at an open one no step is accepted
-  node-closed : Closed G a
+  pub node-closed : Closed G a
   node-closed = elim (parts-fine G (nodes q) t reads n a (ends .stack) (ends .reads) (checkedNow .well-formed .closed)) [
     | inl c ↦ c
     | inr (v, D, path) ↦ absurd (match-open path k m (x .matches) (closed-iff m .1 (x .closed)))

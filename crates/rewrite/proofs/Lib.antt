@@ -6,3 +6,4 @@ pub mod OnForm
 pub mod NodeParts
 pub mod RewriteExact
 pub mod Held
+pub mod RuleSheet

@@ -1,0 +1,502 @@
+//! Properties of random inputs. Each seed gives one input; a property that fails names its seed.
+
+use crate::algebra::Condition;
+use crate::answer::{answer, FILE_BYTES};
+use crate::check::{check, Checked};
+use crate::damage;
+use crate::meaning::meaning;
+use crate::plan::{execute, plan, Line, Machine, Operation};
+use crate::random::{self, Random};
+use crate::rewrite::{apply, rewrite};
+use crate::run::{run, workspace_entries, Answer};
+use crate::selfcheck::{shown, Outcome};
+use crate::text::{print_answer, print_database, print_query, print_steps, read_database, read_query};
+use crate::value::{slots_of, Database, Node, Query, Refusal, COLUMNS};
+
+/// What random inputs have met: accepted rewrites by kind and refusals by number.
+#[derive(Default)]
+pub struct Coverage {
+    pub kinds: [u32; 7],
+    pub numbers: [u32; 20],
+}
+
+impl Coverage {
+    fn refused(&mut self, refusal: Refusal) {
+        self.numbers[refusal.number as usize] += 1;
+    }
+
+    /// Each kind was accepted and each number given.
+    pub fn outcome(&self) -> Outcome {
+        let seen = format!("accepted by kind {:?}, refused by number {:?}", &self.kinds[1..], &self.numbers[1..]);
+        let full = self.kinds[1..].iter().chain(&self.numbers[1..]).all(|times| *times > 0);
+        ("every kind is accepted and every number given".to_string(), if full { Ok(seen) } else { Err(seen) })
+    }
+}
+
+/// `Ok(false)`: the input says nothing about the property.
+type Verdict = Result<bool, String>;
+type Property = fn(&mut Random, &mut Coverage) -> Verdict;
+
+const PROPERTIES: [(&str, Property); 13] = [
+    ("a printed query is read back", queries_are_read_back),
+    ("a printed database is read back", databases_are_read_back),
+    ("a query's refusal names its first bad line", first_bad_line_of_a_query),
+    ("a database's refusal names its first bad line", first_bad_line_of_a_database),
+    ("values off the form are refused at their place", values_off_the_form),
+    ("a damaged query is refused or gives the meaning", damaged_queries),
+    ("a plan has its lines in order", plans),
+    ("a finished run gives the meaning", runs_give_the_meaning),
+    ("budget and row limit are exact", limits_are_exact),
+    ("lent slices hold what they should", lent_slices),
+    ("an accepted rewrite keeps meaning and columns", rewrites),
+    ("a list of rewrites keeps the meaning", lists_of_rewrites),
+    ("answer prints the meaning", answers),
+];
+
+/// One test a property, each on the seeds from `seed` on.
+pub fn properties(seed: u64, count: u64, coverage: &mut Coverage) -> Vec<Outcome> {
+    let mut outcomes = Vec::new();
+    for (name, property) in PROPERTIES {
+        let mut met = 0;
+        let broken =
+            (seed..seed.saturating_add(count)).find_map(|seed| match property(&mut Random::new(seed), coverage) {
+                Ok(tested) => {
+                    met += u64::from(tested);
+                    None
+                }
+                Err(why) => Some(format!("seed {seed}: {why}")),
+            });
+        let result = match broken {
+            Some(why) => Err(why),
+            None => Ok(format!("{met} of {count} inputs")),
+        };
+        outcomes.push((name.to_string(), result));
+    }
+    outcomes
+}
+
+/// Relations larger than this are not evaluated in a test.
+const MOST: usize = 300;
+
+fn told(query: &Query, database: &Database) -> String {
+    format!("\n{}{}", shown(&print_query(query)), shown(&print_database(database)))
+}
+
+fn ensure(holds: bool, why: &str, query: &Query, database: &Database) -> Result<(), String> {
+    if holds {
+        Ok(())
+    } else {
+        Err(format!("{why}{}", told(query, database)))
+    }
+}
+
+/// A database and a query that must pass the check.
+fn input(random: &mut Random, capacity: usize) -> Result<(Database, Query, Checked), String> {
+    let database = random::database(random);
+    let query = random::query(random, database.schema(), capacity);
+    match check(&query, database.schema()) {
+        Ok(checked) => Ok((database, query, checked)),
+        Err(refusal) => Err(format!("refused by construction: {refusal:?}{}", told(&query, &database))),
+    }
+}
+
+fn queries_are_read_back(random: &mut Random, _: &mut Coverage) -> Verdict {
+    let lines: Vec<Node> = (0..1 + random.below(40)).map(|_| random::node(random)).collect();
+    let query = Query::new(&lines, lines.len() + random.below(3));
+    let text = print_query(&query);
+    match read_query(&text, query.nodes.len()) {
+        Ok(read) if read == query => {}
+        other => return Err(format!("read as {other:?}:\n{}", shown(&text))),
+    }
+    match read_query(&text, lines.len() - 1) {
+        Err(Refusal { number: 2, place: 2 }) => Ok(true),
+        other => Err(format!("a limit one lower gives {other:?}:\n{}", shown(&text))),
+    }
+}
+
+fn databases_are_read_back(random: &mut Random, _: &mut Coverage) -> Verdict {
+    let database = random::database(random);
+    let text = print_database(&database);
+    let stored = COLUMNS * database.rows.iter().sum::<u32>() as usize;
+    let mut lent = random.fill(database.store.len());
+    lent[stored..].copy_from_slice(&database.store[stored..]);
+    match read_database(&text, &lent) {
+        Ok(read) if read == database && print_database(&read) == text => {}
+        other => return Err(format!("read as {other:?}:\n{}", shown(&text))),
+    }
+    if stored > 0 && read_database(&text, &lent[..stored - 1]) != Err(Refusal { number: 17, place: 0 }) {
+        return Err(format!("a short store is not refused with 17:\n{}", shown(&text)));
+    }
+    Ok(true)
+}
+
+/// What is read is printed the same. A line refused with `number` follows lines that are good alone, and what comes after it
+/// makes no difference.
+fn first_bad_line(
+    text: &[u8],
+    number: u32,
+    random: &mut Random,
+    coverage: &mut Coverage,
+    read: impl Fn(&[u8]) -> Result<Vec<u8>, Refusal>,
+) -> Verdict {
+    let refusal = match read(text) {
+        Ok(printed) if printed == text => return Ok(true),
+        Ok(printed) => return Err(format!("printed as\n{}read from\n{}", shown(&printed), shown(text))),
+        Err(refusal) => refusal,
+    };
+    coverage.refused(refusal);
+    if refusal.number != number {
+        return Ok(false);
+    }
+    let lines: Vec<&[u8]> = text.split_inclusive(|byte| *byte == b'\n').collect();
+    let place = refusal.place as usize;
+    if place == 0 || place > lines.len() + 1 {
+        return Err(format!("{refusal:?} of\n{}", shown(text)));
+    }
+    let head = lines[..place - 1].concat();
+    match read(&head) {
+        Err(other) if other.number == number && other != refusal => {
+            return Err(format!("{refusal:?}, but {other:?} of the lines before it:\n{}", shown(text)));
+        }
+        _ => {}
+    }
+    if lines.get(place - 1).is_some_and(|line| line.ends_with(b"\n")) {
+        let mut other = lines[..place].concat();
+        other.extend(damage::text(random, &lines[place..].concat()));
+        if read(&other) != Err(refusal) {
+            return Err(format!("{refusal:?}, but not with another ending:\n{}", shown(text)));
+        }
+    }
+    Ok(true)
+}
+
+fn first_bad_line_of_a_query(random: &mut Random, coverage: &mut Coverage) -> Verdict {
+    let (_, query, _) = input(random, 40)?;
+    let text = damage::text(random, &print_query(&query));
+    first_bad_line(&text, 1, random, coverage, |text| read_query(text, 40).map(|query| print_query(&query)))
+}
+
+fn first_bad_line_of_a_database(random: &mut Random, coverage: &mut Coverage) -> Verdict {
+    let text = print_database(&random::database(random));
+    let text = damage::text(random, &text);
+    let store = vec![0; COLUMNS * random.below(40)];
+    first_bad_line(&text, 11, random, coverage, |text| read_database(text, &store).map(|read| print_database(&read)))
+}
+
+fn values_off_the_form(random: &mut Random, coverage: &mut Coverage) -> Verdict {
+    let (database, query, _) = input(random, 40)?;
+    let mut bad = query.clone();
+    let node = random.below(query.count as usize);
+    bad.nodes[node] = match random.below(7) {
+        0 => Node::Table(16),
+        1 => Node::Var(16 + random.below(200) as u8),
+        2 => Node::Fix(255),
+        3 => Node::Fact(8, 0),
+        4 => Node::Filter(Condition::Same(0, 8)),
+        5 => Node::Copy(0, 9),
+        _ => Node::Drop(8),
+    };
+    // A later line off the form changes nothing.
+    let later = node + random.below(query.nodes.len() - node);
+    if later > node {
+        bad.nodes[later] = Node::Drop(9);
+    }
+    let mut short = query.clone();
+    short.count = if random.once_in(2) { 0 } else { query.nodes.len() as u32 + 1 };
+    let (off, place) = damage::database(random, &database);
+    for (database, query, number, place) in [
+        (&database, &bad, 1, node as u32 + 1),
+        (&database, &short, 2, 0),
+        (&off, &query, 11, place),
+        (&off, &bad, 11, place),
+        (&off, &short, 11, place),
+    ] {
+        let expected = Refusal { number, place };
+        coverage.refused(expected);
+        let ran = run(database, query, 0, 0, &mut [], &mut []);
+        let rewritten = rewrite(database, query, 0, 0);
+        if ran != Err(expected) || rewritten != Err(expected) {
+            return Err(format!("{ran:?} and {rewritten:?}, not {expected:?}: {query:?} {database:?}"));
+        }
+    }
+    Ok(true)
+}
+
+fn damaged_queries(random: &mut Random, coverage: &mut Coverage) -> Verdict {
+    let (database, query, _) = input(random, 40)?;
+    let query = damage::query(random, &query);
+    let checked = match check(&query, database.schema()) {
+        Ok(checked) => checked,
+        Err(refusal) => {
+            coverage.refused(refusal);
+            let known = (3..=10).contains(&refusal.number) && (1..=query.count).contains(&refusal.place);
+            ensure(known, &format!("{refusal:?}"), &query, &database)?;
+            return Ok(true);
+        }
+    };
+    let tables = database.relations();
+    let Some(rows) = meaning(&checked.root, &tables, MOST) else {
+        return Ok(false);
+    };
+    let columns = checked.columns(&checked.root);
+    ensure(rows.iter().all(|row| row.keys().eq(columns)), "a row with other columns", &query, &database)?;
+    if let Ok(machine) = execute(&plan(&checked.root), &tables, MOST, u32::MAX) {
+        ensure(machine.registers[checked.root.node - 1] == rows, "not the meaning", &query, &database)?;
+    }
+    Ok(true)
+}
+
+fn plans(random: &mut Random, _: &mut Coverage) -> Verdict {
+    let (database, query, checked) = input(random, 64)?;
+    let plan = plan(&checked.root);
+    let nodes = query.count as usize;
+    let fixes = checked.root.nodes().iter().filter(|term| term.is_fix()).count();
+    let is_start = |line: &Line| matches!(line.operation, Operation::Start { .. });
+    let mut own: Vec<usize> = plan.lines.iter().filter(|line| !is_start(line)).map(|line| line.destination).collect();
+    own.sort();
+    let due: Vec<usize> = (0..nodes).filter(|node| !matches!(query.nodes[*node], Node::Var(_))).collect();
+    ensure(own == due, "not one line a node", &query, &database)?;
+    ensure(plan.lines.len() == due.len() + fixes, "not one start a fix", &query, &database)?;
+    ensure(plan.registers == nodes + fixes, "not one register a node and a fix", &query, &database)?;
+    let mut written = vec![false; plan.registers];
+    for (index, line) in plan.lines.iter().enumerate() {
+        ensure(line.sources.iter().all(|source| written[*source]), "read before it is written", &query, &database)?;
+        written[line.destination] = true;
+        match line.operation {
+            Operation::Start { delta } => {
+                written[delta] = true;
+                let again = plan.lines.get(index + line.path + 1);
+                let closes = again.is_some_and(|again| {
+                    again.operation == Operation::Again { delta }
+                        && again.destination == line.destination
+                        && again.path == line.path
+                });
+                ensure(closes, "no again for a start", &query, &database)?;
+                let path = &plan.lines[index + 1..index + line.path + 1];
+                ensure(
+                    path.windows(2).all(|pair| pair[0].destination < pair[1].destination),
+                    "path",
+                    &query,
+                    &database,
+                )?;
+                // Only path lines read a delta, and only their own.
+                let reads = path.iter().flat_map(|line| &line.sources).filter(|source| **source >= nodes);
+                ensure(reads.into_iter().all(|source| *source == delta), "another delta", &query, &database)?;
+            }
+            Operation::Again { .. } => {}
+            _ => ensure(line.path == 0, "a path without a loop", &query, &database)?,
+        }
+    }
+    Ok(true)
+}
+
+fn runs_give_the_meaning(random: &mut Random, coverage: &mut Coverage) -> Verdict {
+    let (database, query, checked) = input(random, 64)?;
+    let row_limit = [4, 12, 24, 40][random.below(4)];
+    let mut workspace = vec![7; workspace_entries(2 * query.nodes.len(), row_limit)];
+    let mut slots = vec![0; COLUMNS * row_limit as usize];
+    let finished = match run(&database, &query, row_limit, u32::MAX, &mut workspace, &mut slots) {
+        Ok(finished) => finished,
+        Err(refusal) => {
+            coverage.refused(refusal);
+            ensure(refusal == Refusal { number: 18, place: 0 }, &format!("{refusal:?}"), &query, &database)?;
+            return Ok(false);
+        }
+    };
+    let Some(rows) = meaning(&checked.root, &database.relations(), MOST) else {
+        return Ok(false);
+    };
+    let same = finished.rows as usize == rows.len()
+        && &finished.columns == checked.columns(&checked.root)
+        && rows.iter().all(|row| row.keys().eq(&finished.columns))
+        && slots[..COLUMNS * rows.len()] == slots_of(&rows);
+    ensure(same, "not the meaning", &query, &database)?;
+    let written: Vec<&[u32]> = slots.chunks(COLUMNS).take(rows.len()).collect();
+    ensure(written.windows(2).all(|pair| pair[0] < pair[1]), "rows don't ascend", &query, &database)?;
+    Ok(true)
+}
+
+fn limits_are_exact(random: &mut Random, coverage: &mut Coverage) -> Verdict {
+    let (database, query, checked) = input(random, 40)?;
+    let (plan, tables) = (plan(&checked.root), database.relations());
+    let Ok(free) = execute(&plan, &tables, 40, u32::MAX) else {
+        return Ok(false);
+    };
+    let peak = free.peak.max(1);
+    let exact = execute(&plan, &tables, peak, free.ran);
+    ensure(exact.as_ref() == Ok(&free), "limits just met change the run", &query, &database)?;
+    let spent = Err(Refusal { number: 19, place: 0 });
+    let passed = Err(Refusal { number: 18, place: 0 });
+    let less = execute(&plan, &tables, peak, random.below(free.ran as usize) as u32);
+    ensure(less == spent, "a smaller budget is not refused with 19", &query, &database)?;
+    coverage.numbers[19] += 1;
+    if peak > 1 {
+        let limit = 1 + random.below(peak - 1);
+        ensure(
+            execute(&plan, &tables, limit, u32::MAX) == passed,
+            "a smaller limit is not refused with 18",
+            &query,
+            &database,
+        )?;
+        coverage.numbers[18] += 1;
+        // The line that passes the limit gives 18 if the budget reaches it, else 19.
+        let mut machine = Machine::new(&plan);
+        while machine.step(&plan, &tables, limit, u32::MAX).is_ok() {}
+        let order = execute(&plan, &tables, limit, machine.ran) == spent
+            && execute(&plan, &tables, limit, machine.ran + 1) == passed;
+        ensure(order, "18 and 19 in another order", &query, &database)?;
+    }
+    Ok(true)
+}
+
+fn lent_slices(random: &mut Random, coverage: &mut Coverage) -> Verdict {
+    let (mut database, mut query, _) = input(random, 24)?;
+    if random.once_in(8) {
+        query = damage::query(random, &query);
+    }
+    if random.once_in(8) {
+        (database, _) = damage::database(random, &database);
+    }
+    let row_limit = match random.below(12) {
+        0 => 0,
+        1 => 4097,
+        2 => random.next(),
+        3 if random.once_in(20) => 4096,
+        _ => 1 + random.below(30) as u32,
+    };
+    let budget = if random.once_in(3) { random.below(20) as u32 } else { u32::MAX };
+    let registers = check(&query, database.schema()).map_or(0, |checked| plan(&checked.root).registers);
+    let needed = workspace_entries(registers, row_limit.min(4097));
+    let lent = match random.below(6) {
+        0 => needed.saturating_sub(1),
+        1 => needed + random.below(50),
+        _ => needed,
+    };
+    let before = random.fill(lent.min(1 << 20));
+    let enough = before.len() >= needed;
+    let length = random.below(COLUMNS * 20);
+    let slots_before = random.fill(length);
+    let (mut workspace, mut slots) = (before.clone(), slots_before.clone());
+    let result = run(&database, &query, row_limit, budget, &mut workspace, &mut slots);
+    let (began, written) = match &result {
+        Ok(finished) => (true, COLUMNS * finished.rows as usize),
+        Err(refusal) => {
+            coverage.refused(*refusal);
+            (matches!(refusal.number, 18 | 19) || refusal.number == 17 && enough, 0)
+        }
+    };
+    if slots[written..] != slots_before[written..] {
+        return Err(format!("{result:?} wrote past the rows{query:?} {database:?}"));
+    }
+    let kept = if began { workspace.iter().all(|entry| *entry == 0) } else { workspace == before };
+    if !kept || workspace.len() != before.len() {
+        return Err(format!("{result:?} left another workspace: {query:?} {database:?}"));
+    }
+    Ok(true)
+}
+
+/// Every kind at every node.
+fn rewrites(random: &mut Random, coverage: &mut Coverage) -> Verdict {
+    let (database, query, checked) = input(random, 40)?;
+    let tables = database.relations();
+    let before = meaning(&checked.root, &tables, MOST);
+    for node in 0..=query.count + 1 {
+        for kind in 0..=7 {
+            let rewritten = match apply(&checked, &query, kind, node) {
+                Ok(rewritten) => rewritten,
+                Err(refusal) => {
+                    coverage.refused(refusal);
+                    let known = (12..=15).contains(&refusal.number) && refusal.place == 0;
+                    ensure(known, &format!("{refusal:?}"), &query, &database)?;
+                    continue;
+                }
+            };
+            coverage.kinds[kind as usize] += 1;
+            let step = format!("step={kind},{node}");
+            let Ok(after) = check(&rewritten, database.schema()) else {
+                return Err(format!("{step}: not checked any more{}", told(&query, &database)));
+            };
+            let columns = after.columns(&after.root) == checked.columns(&checked.root);
+            ensure(columns, &format!("{step}: other columns"), &query, &database)?;
+            let past = query.count as usize;
+            let kept = rewritten.count == query.count && rewritten.nodes[past..] == query.nodes[past..];
+            ensure(kept, &format!("{step}: another count or other entries past it"), &query, &database)?;
+            if let (Some(before), Some(after)) = (&before, meaning(&after.root, &tables, MOST)) {
+                ensure(*before == after, &format!("{step}: another meaning"), &query, &database)?;
+            }
+        }
+    }
+    Ok(before.is_some())
+}
+
+/// Each step and the run get another database with the same columns.
+fn lists_of_rewrites(random: &mut Random, coverage: &mut Coverage) -> Verdict {
+    let (database, first, checked) = input(random, 40)?;
+    let mut held = first.clone();
+    let mut accepted = 0;
+    for (kind, node) in random::steps(random, &first).into_iter().chain(random::steps(random, &first)) {
+        let other = random::with_columns_of(random, &database);
+        match rewrite(&other, &held, kind, node) {
+            Ok(rewritten) => {
+                held = rewritten;
+                accepted += 1;
+            }
+            Err(refusal) => coverage.refused(refusal),
+        }
+    }
+    let last = random::with_columns_of(random, &database);
+    let Ok(after) = check(&held, last.schema()) else {
+        return Err(format!("not checked any more{}", told(&first, &last)));
+    };
+    let Ok(machine) = execute(&plan(&after.root), &last.relations(), 40, u32::MAX) else {
+        return Ok(false);
+    };
+    let Some(rows) = meaning(&checked.root, &last.relations(), MOST) else {
+        return Ok(false);
+    };
+    let same = machine.registers[after.root.node - 1] == rows;
+    ensure(same, &format!("another meaning as\n{}", shown(&print_query(&held))), &first, &last)?;
+    Ok(accepted > 0)
+}
+
+fn answers(random: &mut Random, coverage: &mut Coverage) -> Verdict {
+    let (database, query, checked) = input(random, 26)?;
+    let (mut sheet, mut book) = (print_query(&query), print_database(&database));
+    let mut steps = print_steps(&random::steps(random, &query));
+    let damaged = random.once_in(3);
+    if damaged {
+        let text = [&mut sheet, &mut book, &mut steps].into_iter().nth(random.below(3)).expect("one of three");
+        if random.once_in(30) {
+            text.resize(FILE_BYTES + random.below(2), b'\n');
+        } else {
+            *text = damage::text(random, text);
+        }
+    }
+    let printed = shown(&answer(&sheet, &book, &steps));
+    let told = || format!("printed\n{printed}of\n{}{}{}", shown(&sheet), shown(&book), shown(&steps));
+    if let Some(refusal) = printed.strip_prefix("refused=") {
+        let parts: Vec<u32> = refusal.trim_end().split(',').flat_map(str::parse).collect();
+        let [number, place] = parts[..] else {
+            return Err(told());
+        };
+        coverage.refused(Refusal { number, place });
+        let few = query.count <= 24;
+        let known =
+            damaged || matches!(number, 12..=15 | 18) && few && place == 0 || (number, place, few) == (2, 2, false);
+        return if known { Ok(true) } else { Err(told()) };
+    }
+    if damaged {
+        return Ok(true);
+    }
+    let Some(rows) = meaning(&checked.root, &database.relations(), MOST) else {
+        return Ok(false);
+    };
+    let ran = printed.lines().last().and_then(|line| line.strip_prefix("ran=")).and_then(|ran| ran.parse().ok());
+    let columns = checked.columns(&checked.root).clone();
+    let expected = Answer { columns, rows: rows.len() as u32, ran: ran.unwrap_or(0) };
+    if ran.is_some() && printed.as_bytes() == print_answer(&expected, &slots_of(&rows)) {
+        Ok(true)
+    } else {
+        Err(told())
+    }
+}

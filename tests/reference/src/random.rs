@@ -1,0 +1,440 @@
+//! Random inputs from fixed seeds: databases, queries that are checked by construction, steps.
+
+use crate::algebra::{Columns, Condition, Pairing, Relation};
+use crate::value::{Database, Node, Query, COLUMNS, TABLES, VARIABLES};
+
+/// A xorshift generator.
+pub struct Random(u64);
+
+impl Random {
+    pub fn new(seed: u64) -> Random {
+        let mixed = (seed ^ 0x2545_f491_4f6c_dd1d).wrapping_mul(0x9e37_79b9_7f4a_7c15);
+        let mut random = Random(mixed.max(1));
+        for _ in 0..8 {
+            random.next();
+        }
+        random
+    }
+
+    pub fn next(&mut self) -> u32 {
+        self.0 ^= self.0 << 13;
+        self.0 ^= self.0 >> 7;
+        self.0 ^= self.0 << 17;
+        (self.0.wrapping_mul(0x2545_f491_4f6c_dd1d) >> 32) as u32
+    }
+
+    pub fn below(&mut self, bound: usize) -> usize {
+        self.next() as usize % bound
+    }
+
+    /// True once in so many times.
+    pub fn once_in(&mut self, times: usize) -> bool {
+        self.below(times) == 0
+    }
+
+    pub fn pick<T: Clone>(&mut self, from: impl IntoIterator<Item = T>) -> Option<T> {
+        let all: Vec<T> = from.into_iter().collect();
+        (!all.is_empty()).then(|| all[self.below(all.len())].clone())
+    }
+
+    pub fn fill(&mut self, entries: usize) -> Vec<u32> {
+        (0..entries).map(|_| self.next()).collect()
+    }
+
+    /// A cell value: few different ones, so that rows meet.
+    fn cell(&mut self, values: usize) -> u32 {
+        match self.below(60) {
+            0 => u32::MAX,
+            1 => u32::MAX - 1,
+            _ => self.below(values) as u32,
+        }
+    }
+}
+
+fn relation(random: &mut Random, columns: &Columns) -> Relation {
+    let (rows, values) = if random.once_in(80) { (random.below(40), 12) } else { (random.below(7), 5) };
+    (0..rows).map(|_| columns.iter().map(|c| (*c, random.cell(values))).collect()).collect()
+}
+
+fn stored(random: &mut Random, schema: &[Columns]) -> Database {
+    let tables: Vec<_> = schema.iter().map(|columns| (columns.clone(), relation(random, columns))).collect();
+    let spare = random.below(20);
+    let mut database = Database::stored(&tables, 0);
+    database.store.extend(random.fill(spare));
+    database
+}
+
+pub fn database(random: &mut Random) -> Database {
+    let mut schema = Vec::new();
+    if random.once_in(3) {
+        // Two tables that share a column.
+        schema = vec![Columns::from([0, 1]), Columns::from([0, 3])];
+    }
+    for _ in 0..[0, 1, 1, 1, 2, 3][random.below(6)] {
+        schema.push(match random.below(8) {
+            0..=3 => Columns::from([0, 1]),
+            4 => Columns::from([0, 3]),
+            5 => Columns::from([random.below(4) as u8]),
+            6 => (0..3).map(|_| random.below(4) as u8).collect(),
+            _ => (0..4).map(|_| random.below(COLUMNS) as u8).collect(),
+        });
+    }
+    stored(random, &schema)
+}
+
+/// Another database with the same columns.
+pub fn with_columns_of(random: &mut Random, database: &Database) -> Database {
+    stored(random, database.schema())
+}
+
+/// A query that is checked over the schema.
+pub fn query(random: &mut Random, schema: &[Columns], capacity: usize) -> Query {
+    let mut size = 2 + random.below(8);
+    loop {
+        let mut maker = Maker { random: &mut *random, schema, taken: Vec::new() };
+        let mut piece = if maker.random.once_in(4) { maker.closed(size) } else { maker.redex(size) };
+        while maker.random.once_in(3) {
+            piece = if maker.random.once_in(3) { maker.beside(piece) } else { maker.above(piece) };
+        }
+        if piece.lines.len() <= capacity {
+            return Query::new(&piece.lines, capacity);
+        }
+        size = size.saturating_sub(1);
+    }
+}
+
+/// Lines and the columns of their last node.
+#[derive(Clone)]
+struct Piece {
+    lines: Vec<Node>,
+    columns: Columns,
+}
+
+impl Piece {
+    fn leaf(line: Node, columns: Columns) -> Piece {
+        Piece { lines: vec![line], columns }
+    }
+
+    fn filter(mut self, condition: Condition) -> Piece {
+        self.lines.push(Node::Filter(condition));
+        self
+    }
+
+    fn copy(mut self, from: u8, to: u8) -> Piece {
+        self.lines.push(Node::Copy(from, to));
+        self.columns.insert(to);
+        self
+    }
+
+    fn drop(mut self, column: u8) -> Piece {
+        self.lines.push(Node::Drop(column));
+        self.columns.remove(&column);
+        self
+    }
+
+    fn pair(mut self, pairing: Pairing, right: Piece) -> Piece {
+        self.lines.extend(right.lines);
+        self.lines.push(Node::Pair(pairing));
+        if pairing == Pairing::Join {
+            self.columns.extend(right.columns);
+        }
+        self
+    }
+
+    fn fix(mut self, step: Piece, variable: u8) -> Piece {
+        self.lines.extend(step.lines);
+        self.lines.push(Node::Fix(variable));
+        self
+    }
+}
+
+struct Maker<'a> {
+    random: &'a mut Random,
+    schema: &'a [Columns],
+    taken: Vec<u8>,
+}
+
+impl Maker<'_> {
+    fn absent(&mut self, columns: &Columns) -> Option<u8> {
+        // Low columns more often than high ones.
+        let last = if self.random.once_in(4) { COLUMNS as u8 } else { 5 };
+        self.random.pick((0..last).filter(|c| !columns.contains(c)))
+    }
+
+    fn variable(&mut self) -> Option<u8> {
+        let found = self.random.pick((0..VARIABLES).filter(|v| !self.taken.contains(v)))?;
+        self.taken.push(found);
+        Some(found)
+    }
+
+    fn fact(&mut self, column: u8) -> Piece {
+        Piece::leaf(Node::Fact(column, self.random.cell(5)), Columns::from([column]))
+    }
+
+    fn table(&mut self, table: usize) -> Piece {
+        Piece::leaf(Node::Table(table as u8), self.schema[table].clone())
+    }
+
+    fn leaf(&mut self) -> Piece {
+        match self.random.pick(0..self.schema.len()) {
+            Some(table) if !self.random.once_in(4) => self.table(table),
+            _ => {
+                let column = self.random.below(4) as u8;
+                self.fact(column)
+            }
+        }
+    }
+
+    fn condition(&mut self, columns: &Columns) -> Option<Condition> {
+        let column = self.random.pick(columns.iter().copied())?;
+        let value = self.random.cell(5);
+        Some(match self.random.below(4) {
+            0 => Condition::Eq(column, value),
+            1 => Condition::Ne(column, value),
+            2 => Condition::Max(column, value),
+            _ => Condition::Same(column, self.random.pick(columns.iter().copied())?),
+        })
+    }
+
+    /// A filter, copy, rename or drop above a piece.
+    fn above(&mut self, piece: Piece) -> Piece {
+        let column = self.random.pick(piece.columns.iter().copied());
+        let absent = self.absent(&piece.columns);
+        match (self.random.below(5), column, absent) {
+            (0, Some(from), Some(to)) => piece.copy(from, to),
+            (1, Some(from), Some(to)) => piece.copy(from, to).drop(from),
+            (2, Some(column), _) => piece.drop(column),
+            _ => match self.condition(&piece.columns) {
+                Some(condition) => piece.filter(condition),
+                None => piece,
+            },
+        }
+    }
+
+    /// A pair of a piece and something closed.
+    fn beside(&mut self, piece: Piece) -> Piece {
+        let other = self.other(&piece.columns);
+        match self.random.below(4) {
+            0 => other.pair(Pairing::Join, piece),
+            1 => piece.pair(Pairing::Join, other),
+            2 => piece.pair(Pairing::Except, other),
+            _ => {
+                let other = self.adapt(other, &piece.columns);
+                piece.pair(Pairing::Union, other)
+            }
+        }
+    }
+
+    /// A closed piece that often shares a column with given ones.
+    fn other(&mut self, columns: &Columns) -> Piece {
+        match (self.random.below(6), self.random.pick(columns.iter().copied())) {
+            (0..=2, Some(column)) => self.fact(column),
+            (3, _) => {
+                let column = self.random.below(COLUMNS) as u8;
+                self.fact(column)
+            }
+            (4, _) => self.closed(4),
+            _ => self.closed(1),
+        }
+    }
+
+    fn closed(&mut self, size: usize) -> Piece {
+        if size <= 1 {
+            return self.leaf();
+        }
+        match self.random.below(10) {
+            0 => self.leaf(),
+            1..=3 => {
+                let piece = self.closed(size - 1);
+                self.above(piece)
+            }
+            4..=6 => {
+                let piece = self.closed(size / 2);
+                self.beside(piece)
+            }
+            _ => self.fix(size),
+        }
+    }
+
+    fn fix(&mut self, size: usize) -> Piece {
+        let Some(variable) = self.variable() else {
+            return self.leaf();
+        };
+        if !self.random.once_in(3) {
+            if let Some(reach) = self.reach(variable) {
+                return reach;
+            }
+        }
+        let seed = self.closed(size / 3);
+        let mut step = Piece::leaf(Node::Var(variable), seed.columns.clone());
+        for _ in 0..self.random.below(4) {
+            step = self.walk(step, variable, &seed.columns);
+        }
+        let step = self.adapt(step, &seed.columns);
+        seed.fix(step, variable)
+    }
+
+    /// A recursion like Reach over a table of two columns or more: a hop from one column to another, with a filter, a
+    /// further branch or a passing column now and then.
+    fn reach(&mut self, variable: u8) -> Option<Piece> {
+        let schema = self.schema;
+        let table = self.random.pick((0..schema.len()).filter(|t| schema[*t].len() >= 2))?;
+        let mut seed = self.table(table);
+        let lowest = *seed.columns.first()?;
+        let from = if self.random.once_in(3) { self.random.pick(seed.columns.clone())? } else { lowest };
+        let to = self.random.pick(seed.columns.iter().copied().filter(|c| *c != from))?;
+        if self.random.once_in(3) {
+            let passing = self.absent(&seed.columns)?;
+            let fact = self.fact(passing);
+            seed = seed.pair(Pairing::Join, fact);
+        }
+        let middle = self.absent(&seed.columns)?;
+        let mut step = Piece::leaf(Node::Var(variable), seed.columns.clone()).copy(to, middle).drop(to);
+        let hop = self.table(table).copy(from, middle).drop(from);
+        step = match self.random.below(2) {
+            0 => step.pair(Pairing::Join, hop),
+            _ => hop.pair(Pairing::Join, step),
+        };
+        step = step.drop(middle);
+        if self.random.once_in(3) {
+            step = self.walk(step, variable, &seed.columns);
+            step = self.adapt(step, &seed.columns);
+        }
+        Some(seed.fix(step, variable))
+    }
+
+    /// One more operator on a path whose variable has the columns `whole`.
+    fn walk(&mut self, path: Piece, variable: u8, whole: &Columns) -> Piece {
+        match self.random.below(6) {
+            0..=2 => self.above(path),
+            3 => {
+                let mut branch = Piece::leaf(Node::Var(variable), whole.clone());
+                if !self.random.once_in(3) {
+                    branch = self.walk(branch, variable, whole);
+                }
+                let branch = self.adapt(branch, &path.columns);
+                path.pair(Pairing::Union, branch)
+            }
+            _ => {
+                let other = if self.random.once_in(5) { self.fix(3) } else { self.other(&path.columns) };
+                match self.random.below(3) {
+                    0 => other.pair(Pairing::Join, path),
+                    1 => path.pair(Pairing::Join, other),
+                    _ => path.pair(Pairing::Except, other),
+                }
+            }
+        }
+    }
+
+    /// Gives a piece exactly the wanted columns.
+    fn adapt(&mut self, mut piece: Piece, wanted: &Columns) -> Piece {
+        for column in wanted - &piece.columns {
+            piece = match self.random.pick(&piece.columns - wanted).or(self.random.pick(piece.columns.clone())) {
+                Some(from) => piece.copy(from, column),
+                None => {
+                    let fact = self.fact(column);
+                    piece.pair(Pairing::Join, fact)
+                }
+            };
+        }
+        for column in &piece.columns - wanted {
+            piece = piece.drop(column);
+        }
+        piece
+    }
+
+    /// Something that a kind of rewrite looks at.
+    fn redex(&mut self, size: usize) -> Piece {
+        let fix = self.fix(size);
+        match self.random.below(7) {
+            0 => match self.condition(&fix.columns) {
+                Some(condition) => fix.filter(condition),
+                None => fix,
+            },
+            1 => {
+                let other = self.other(&fix.columns);
+                fix.pair(Pairing::Join, other)
+            }
+            2 => {
+                let other = self.other(&fix.columns);
+                other.pair(Pairing::Join, fix)
+            }
+            3 => {
+                let other = self.other(&fix.columns);
+                fix.pair(Pairing::Except, other)
+            }
+            4 => match self.random.pick(fix.columns.clone()) {
+                Some(column) => fix.drop(column),
+                None => fix,
+            },
+            5 => {
+                let right = self.fix(size);
+                fix.pair(Pairing::Join, right)
+            }
+            _ => {
+                // In the step of an outer fix: the fix joined to the outer variable, which has some of its columns.
+                let Some(variable) = self.variable() else {
+                    return fix;
+                };
+                let columns: Columns = fix.columns.iter().copied().filter(|_| self.random.once_in(2)).collect();
+                let seed = self.closed(size / 3);
+                let seed = self.adapt(seed, &columns);
+                let outer = Piece::leaf(Node::Var(variable), columns.clone());
+                let step = match self.random.below(2) {
+                    0 => fix.pair(Pairing::Join, outer),
+                    _ => outer.pair(Pairing::Join, fix),
+                };
+                let step = self.adapt(step, &columns);
+                seed.fix(step, variable)
+            }
+        }
+    }
+}
+
+/// Any line of a query's form.
+pub fn node(random: &mut Random) -> Node {
+    let (a, b) = (random.below(COLUMNS) as u8, random.below(COLUMNS) as u8);
+    let variable = random.below(usize::from(VARIABLES)) as u8;
+    let value = if random.once_in(2) { random.next() } else { random.cell(5) };
+    match random.below(13) {
+        0 => Node::Table(random.below(TABLES as usize) as u8),
+        1 => Node::Var(variable),
+        2 => Node::Fix(variable),
+        3 => Node::Fact(a, value),
+        4 => Node::Pair(Pairing::Union),
+        5 => Node::Pair(Pairing::Join),
+        6 => Node::Pair(Pairing::Except),
+        7 => Node::Filter(Condition::Eq(a, value)),
+        8 => Node::Filter(Condition::Ne(a, value)),
+        9 => Node::Filter(Condition::Max(a, value)),
+        10 => Node::Filter(Condition::Same(a, b)),
+        11 => Node::Copy(a, b),
+        _ => Node::Drop(a),
+    }
+}
+
+/// A list of steps, most of them at lines that a kind looks at.
+pub fn steps(random: &mut Random, query: &Query) -> Vec<(u32, u32)> {
+    let likely: Vec<(u32, u32)> = query
+        .lines()
+        .iter()
+        .zip(1..)
+        .flat_map(|(line, node)| {
+            let kinds: &[u32] = match line {
+                Node::Filter(_) => &[1],
+                Node::Pair(Pairing::Join) => &[2, 3, 6],
+                Node::Pair(Pairing::Except) => &[4],
+                Node::Drop(_) => &[5],
+                _ => &[],
+            };
+            kinds.iter().map(move |kind| (*kind, node)).collect::<Vec<_>>()
+        })
+        .collect();
+    (0..random.below(5))
+        .map(|_| match random.pick(likely.iter().copied()) {
+            Some(step) if !random.once_in(6) => step,
+            _ if random.once_in(6) => (random.next(), random.next()),
+            _ => (random.below(8) as u32, random.below(query.count as usize + 2) as u32),
+        })
+        .collect()
+}

@@ -1,0 +1,117 @@
+//! The six kinds of rewrites on the lines of a query: 12 to 15 in order, else the rule's query.
+
+use crate::algebra::{Columns, Pairing};
+use crate::check::{check, Checked};
+use crate::term::Term;
+use crate::value::{refuse, Database, Node, Query, Refusal};
+
+/// Tests the database and the query as a run does, then the rule. A refused query stays as given.
+pub fn rewrite(database: &Database, query: &Query, kind: u32, node: u32) -> Result<Query, Refusal> {
+    database.form()?;
+    let checked = check(query, database.schema())?;
+    apply(&checked, query, kind, node)
+}
+
+/// One step on a checked query.
+pub fn apply(checked: &Checked, query: &Query, kind: u32, node: u32) -> Result<Query, Refusal> {
+    let all = checked.root.nodes();
+    let Some(named) = all.iter().find(|term| term.node as u64 == u64::from(node)) else {
+        return refuse(12, 0);
+    };
+    let Some(rule) = matched(named, kind) else {
+        return refuse(12, 0);
+    };
+    rule.test(checked)?;
+    let mut result = query.clone();
+    let lines = rule.lines(query.lines(), named.line);
+    result.nodes[named.first() - 1..named.node].copy_from_slice(&lines);
+    Ok(result)
+}
+
+/// What a kind matches: the fix and what stands over or beside it.
+enum Rule<'a> {
+    Filter { fix: &'a Term, columns: Columns },
+    JoinLeft { fix: &'a Term, other: &'a Term },
+    JoinRight { other: &'a Term, fix: &'a Term },
+    Except { fix: &'a Term, other: &'a Term },
+    Drop { fix: &'a Term, column: u8 },
+    Merge { left: &'a Term, right: &'a Term },
+}
+
+fn matched(term: &Term, kind: u32) -> Option<Rule<'_>> {
+    let fix_at = |operand: usize| term.operands.get(operand).filter(|found| found.is_fix());
+    match (kind, term.line) {
+        (1, Node::Filter(condition)) => Some(Rule::Filter { fix: fix_at(0)?, columns: condition.columns() }),
+        (2, Node::Pair(Pairing::Join)) => Some(Rule::JoinLeft { fix: fix_at(0)?, other: &term.operands[1] }),
+        (3, Node::Pair(Pairing::Join)) => Some(Rule::JoinRight { other: &term.operands[0], fix: fix_at(1)? }),
+        (4, Node::Pair(Pairing::Except)) => Some(Rule::Except { fix: fix_at(0)?, other: &term.operands[1] }),
+        (5, Node::Drop(column)) => Some(Rule::Drop { fix: fix_at(0)?, column }),
+        (6, Node::Pair(Pairing::Join)) => Some(Rule::Merge { left: fix_at(0)?, right: fix_at(1)? }),
+        _ => None,
+    }
+}
+
+/// No `drop` on the path names one of the columns.
+fn stable(fix: &Term, columns: &Columns) -> bool {
+    !fix.path().iter().any(|term| matches!(term.line, Node::Drop(a) if columns.contains(&a)))
+}
+
+/// A filter, copy or drop on the path names one of the columns, or a closed operand beside the path has it.
+fn used(checked: &Checked, fix: &Term, columns: &Columns) -> bool {
+    let named = fix.path().iter().any(|term| !term.line.names().is_disjoint(columns));
+    named || fix.beside().iter().any(|operand| !checked.columns(operand).is_disjoint(columns))
+}
+
+impl Rule<'_> {
+    /// 13, 14, 15 in this order.
+    fn test(&self, checked: &Checked) -> Result<(), Refusal> {
+        let shared = |a: &Term, b: &Term| checked.columns(a) & checked.columns(b);
+        let only = |a: &Term, b: &Term| checked.columns(a) - checked.columns(b);
+        let (unstable, taken, open) = match self {
+            Rule::Filter { fix, columns } => (!stable(fix, columns), false, false),
+            Rule::JoinLeft { fix, other } | Rule::JoinRight { fix, other } => {
+                (!stable(fix, &shared(fix, other)), used(checked, fix, &only(other, fix)), !other.closed())
+            }
+            Rule::Except { fix, other } => (!stable(fix, &shared(fix, other)), false, !other.closed()),
+            Rule::Drop { fix, column } => (false, used(checked, fix, &Columns::from([*column])), false),
+            Rule::Merge { left, right } => {
+                let both = shared(left, right);
+                let unstable = !stable(left, &both) || !stable(right, &both);
+                let taken = used(checked, right, &only(left, right)) || used(checked, left, &only(right, left));
+                (unstable, taken, false)
+            }
+        };
+        match (unstable, taken, open) {
+            (true, _, _) => refuse(13, 0),
+            (_, true, _) => refuse(14, 0),
+            (_, _, true) => refuse(15, 0),
+            _ => Ok(()),
+        }
+    }
+
+    /// The lines in place of those that end at the named node, whose own line is `last`.
+    fn lines(&self, query: &[Node], last: Node) -> Vec<Node> {
+        let of = |term: &Term| query[term.first() - 1..term.node].to_vec();
+        let last = vec![last];
+        match self {
+            Rule::Filter { fix, .. } | Rule::Drop { fix, .. } => {
+                [of(fix.seed()), last, of(fix.step()), vec![fix.line]].concat()
+            }
+            Rule::JoinLeft { fix, other } | Rule::Except { fix, other } => {
+                [of(fix.seed()), of(other), last, of(fix.step()), vec![fix.line]].concat()
+            }
+            Rule::JoinRight { other, fix } => {
+                [of(other), of(fix.seed()), last, of(fix.step()), vec![fix.line]].concat()
+            }
+            Rule::Merge { left, right } => {
+                let (Node::Fix(kept), Node::Fix(gone)) = (left.line, right.line) else {
+                    unreachable!("a merge joins two fixes")
+                };
+                let renamed = |line: Node| if line == Node::Var(gone) { Node::Var(kept) } else { line };
+                let right_step = of(right.step()).into_iter().map(renamed).collect();
+                let union = vec![Node::Pair(Pairing::Union)];
+                [of(left.seed()), of(right.seed()), last, of(left.step()), right_step, union, vec![left.line]].concat()
+            }
+        }
+    }
+}

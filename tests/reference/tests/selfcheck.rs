@@ -1,0 +1,22 @@
+//! The tests of the program selfcheck, on fewer random inputs.
+
+use reference::examples::examples;
+use reference::properties::{properties, Coverage};
+use reference::selfcheck::{case_folder, cases, report};
+
+#[test]
+fn every_case_is_answered() {
+    let outcomes = cases(&case_folder());
+    assert!(!outcomes.is_empty());
+    assert_eq!(report(&outcomes).1, 0);
+}
+
+#[test]
+fn every_example_holds() {
+    assert_eq!(report(&examples()).1, 0);
+}
+
+#[test]
+fn every_property_holds() {
+    assert_eq!(report(&properties(1, 150, &mut Coverage::default())).1, 0);
+}
