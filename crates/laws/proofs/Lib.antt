@@ -7,3 +7,4 @@ pub mod Faults
 pub mod Passes
 pub mod Indexed
 pub mod PlanLists
+pub mod Readers

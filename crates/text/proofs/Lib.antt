@@ -1,6 +1,12 @@
+pub mod ReaderLawsNumbers
+pub mod ReaderLawsLines
+pub mod ReaderLawsForms
 pub mod Digits
 pub mod Commas
 pub mod Numbers
+pub mod ReaderLawsDue
+pub mod ReaderLawsMany
+pub mod ReaderLawsQuery
 pub mod NumberLists
 pub mod Forms
 pub mod NodeForms

@@ -2,3 +2,6 @@ pub mod Numbers
 pub mod Lines
 pub mod Texts
 pub mod Replies
+pub mod Readings
+pub mod Cursors
+pub mod QueryReading
