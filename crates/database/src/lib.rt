@@ -1,4 +1,8 @@
 // The database: document 01's stored book, and the refusals that every layer gives.
+mod refusals;
+
+pub use refusals::refusal_number;
+pub use refusals::refusal_place;
 use relation::Columns;
 
 // "tables and variables 0–15"
