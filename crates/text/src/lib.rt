@@ -1,4 +1,5 @@
 // Reading and writing document 01's text forms.
+mod output;
 use database::Database;
 use database::Verdict;
 use query::Query;
