@@ -3,7 +3,7 @@ use mathlib.Core.Bool.{Bool, true, false, not, _&&_, _||_}
 use mathlib.Core.Option.{Option, some, none}
 use mathlib.Core.List.{List, [], _∷_}
 use Prim.Native.Nat.{ℕ, zero, suc, _+_, _*_}
-use lib.Dec.{eqb, leb}
+use lib.Dec.{leb, ltb}
 use lib.ListN.{getD, drop, length}
 use Rattle.laws.specs.Lists.{if_then_else_, all, lowest, every}
 use Rattle.algebra.specs.Term.{Environment}
@@ -24,9 +24,9 @@ abbrev pub rowsLimit : ℕ
 rowsLimit = 4096
 
 module _ (w : ℕ) (d : Database) where
-  -- the columns of table t
+  -- the columns of table t; a table that isn't in the book has none
   abbrev pub tableCols : ℕ → Cols
-  tableCols t = colsOf w (getD (d .columns) t (record { has = [] }))
+  tableCols t c = ltb t (d .tables) && colsOf w (getD (d .columns) t (record { has = [] })) c
 
   abbrev pub rowCount : ℕ → ℕ
   rowCount t = getD (d .rows) t 0

@@ -1,3 +1,6 @@
 pub mod Tests
 pub mod Lists
+pub mod RowLists
 pub mod Options
+pub mod TextLists
+pub mod Faults

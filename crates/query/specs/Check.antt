@@ -6,12 +6,13 @@ use lib.Dec.{ltb}
 use Rattle.laws.specs.Lists.{if_then_else_, _==_, every, all, member}
 use Rattle.algebra.specs.declared.Pairing.{Pairing}
 use Rattle.algebra.specs.declared.Pairing.the-variants.{Union, Join, Except}
-use Rattle.algebra.specs.Term.{Term, table, var, fact, pair, filter, copy, drop, fix}
+use Rattle.algebra.specs.Mapping.{Relation}
+use Rattle.algebra.specs.Term.{Term, meaning, table, var, fact, pair, filter, copy, drop, fix}
 use Rattle.algebra.specs.Columns.{Cols, noCols, Schema, cols, free, isClosed, size, fixNumbers, named}
 use Rattle.database.specs.declared.Database.{Database}
 use Rattle.database.specs.declared.Refusal.{Refusal}
 use Rattle.database.specs.declared.Refusal.the-variants.{Scope, OpenExcept, OpenJoin, OpenFix, HalfOpen, ColumnFault, NoTable}
-use Rattle.database.specs.Stored.{schema, checkDatabase}
+use Rattle.database.specs.Stored.{schema, checkDatabase, tables}
 use Rattle.database.specs.Refusals.{Reply, accepted, noFault, _>>=_}
 use Rattle.query.specs.declared.Query.{Query}
 use Rattle.query.specs.Lines.{nodes, checkForm, termOf}
@@ -87,3 +88,7 @@ unfoldable pub checkOver : ℕ → ℕ → Query → Database → List ℕ → R
 checkOver w limit q d store = do
   _ ← checkDatabase w d store
   checkQuery limit q (schema w d)
+
+-- "A sheet's meaning over a book is its last node's by the table of lines": no variable stands for anything
+abbrev pub meaningOver : ℕ → Database → List ℕ → Term → Relation
+meaningOver w d store t = meaning (tables w d store) t (λ v m. ⊥)

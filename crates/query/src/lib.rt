@@ -1,6 +1,8 @@
 // The query: document 01's sheet, as lines of nodes.
 use algebra::Condition;
 use algebra::Pairing;
+use database::Verdict;
+use relation::Columns;
 
 // "node count … 1–128"
 pub const NODES: usize = 128;
@@ -25,4 +27,25 @@ pub struct Line {
 pub struct Query {
     pub count: usize,
     pub lines: [Line; NODES],
+}
+
+// "variables 0–15"
+pub const VARIABLES: usize = 16;
+
+// A set of recursion variables.
+pub struct Variables {
+    pub has: [bool; VARIABLES],
+}
+
+// What the check tells of each node, in node order: the index of its first line, its free variables, its columns.
+pub struct Facts {
+    pub start: [usize; NODES],
+    pub free: [Variables; NODES],
+    pub columns: [Columns; NODES],
+}
+
+// What a check replies; a refusal comes with blank facts.
+pub struct CheckedQuery {
+    pub verdict: Verdict,
+    pub facts: Facts,
 }

@@ -1,1 +1,13 @@
 pub mod Shows
+pub mod RowOrder
+pub mod Members
+pub mod Ascend
+pub mod Insert
+pub mod Sift
+pub mod RowMappings
+pub mod Shapes
+pub mod RowsUnique
+pub mod Gather
+pub mod Kept
+pub mod Operators
+pub mod ColumnsRound

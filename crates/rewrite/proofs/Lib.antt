@@ -2,3 +2,4 @@ pub mod RenamedLines
 pub mod RuleLines
 pub mod Around
 pub mod RuleExact
+pub mod OnForm

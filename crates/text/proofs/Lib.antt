@@ -1,1 +1,4 @@
+pub mod Digits
+pub mod Commas
+pub mod Numbers
 pub mod Puts

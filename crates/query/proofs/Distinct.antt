@@ -1,0 +1,50 @@
+-- Distinct numbers by counting: no number stands twice exactly if each is counted at most once.
+use mathlib.Core.Path.{_≡_, ap}
+use mathlib.Core.Bool.{false}
+use mathlib.Core.List.{List, [], _∷_, _++_}
+use mathlib.Core.Logic.{inl, inr, _↔_}
+use Prim.Native.Nat.{ℕ, _+_, _≤_}
+use native.Mathlib.Omega.{arith}
+use lib.Dec.{eqb}
+use Rattle.laws.specs.Lists.{if_then_else_, member}
+use Rattle.laws.proofs.Tests.{same?}
+use Rattle.laws.proofs.Lists.{count, count-head, count-append, absent-count, count-absent}
+use Rattle.algebra.specs.WellFormed.{Distinct}
+
+abbrev pub Apart : List ℕ → Type 0
+Apart l = (n : ℕ) → count n l ≤ 1
+
+pub distinct-apart : (l : List ℕ) → Distinct l → Apart l
+unfolding count
+distinct-apart [] h n = omega arith
+distinct-apart (a ∷ l) (h, k) n =
+    let i = distinct-apart l k n in
+    elim (same? n a) [
+      | inl s ↦ rw (s .1, s .0) (omega (arith, absent-count a l h))
+      | inr s ↦ rw (s .1) (omega arith)
+    ]
+
+pub apart-distinct : (l : List ℕ) → Apart l → Distinct l
+unfolding count
+apart-distinct [] h = tt
+apart-distinct (a ∷ l) h = (
+  count-absent a l (omega (arith, h a, count-head a l)),
+  apart-distinct l (λ n. omega (arith, h n)),
+)
+
+pub apart-left : (l m : List ℕ) → Apart (l ++ m) → Apart l
+apart-left l m h n = omega (arith, h n, count-append n l m)
+
+-- one number more
+pub apart-one : (l : List ℕ) (v : ℕ) → Apart (l ++ (v ∷ [])) ↔ ((member v l ≡ false) × Apart l)
+unfolding count
+apart-one l v = (
+  (λ h. (count-absent v l (omega (arith, h v, count-append v l (v ∷ []), count-head v [])), apart-left l (v ∷ []) h)),
+  (λ (e, h) n.
+      let i = h n in
+      rw (count-append n l (v ∷ []))
+      (elim (same? n v) [
+        | inl s ↦ rw (s .1, s .0) (omega (arith, absent-count v l e))
+        | inr s ↦ rw (s .1) (omega arith)
+      ])),
+)

@@ -1,0 +1,10 @@
+pub mod Reading
+pub mod TermLines
+pub mod Prefix
+pub mod ReadRefused
+pub mod Distinct
+pub mod FirstPass
+pub mod SecondPass
+pub mod Formed
+pub mod Complete
+pub mod CheckedIff
