@@ -2,3 +2,4 @@ pub mod Digits
 pub mod Commas
 pub mod Numbers
 pub mod Puts
+pub mod LastDigit
