@@ -3,3 +3,5 @@ pub mod Commas
 pub mod Numbers
 pub mod Puts
 pub mod LastDigit
+pub mod Measured
+pub mod PrintedLines

@@ -1,4 +1,4 @@
--- Texts put one behind the other, and what a whole text leaves that was measured first.
+-- Texts put one behind the other.
 use mathlib.Core.Path.{_≡_, refl, ap, sym, _∙_}
 use mathlib.Core.Bool.{Bool, true, false}
 use mathlib.Core.List.{List, [], _∷_, _++_}
@@ -17,7 +17,7 @@ put-append store [] t o = refl
 put-append store (b ∷ s) t o = put-append store s t (putByte store b o)
 
 -- past the end nothing changes
-put-past : (store : Bool) (text : List ℕ) (o : Output) → length (o .slice) < o .at → put store text o ≡ o
+pub put-past : (store : Bool) (text : List ℕ) (o : Output) → length (o .slice) < o .at → put store text o ≡ o
 unfolding put
 put-past store [] o h = refl
 put-past store (b ∷ text) o h = ap (put store text) past ∙ put-past store text o h

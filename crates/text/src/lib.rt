@@ -1,8 +1,11 @@
 // Reading and writing document 01's text forms.
 mod output;
+mod writers;
+
 use database::Database;
 use database::Verdict;
 use query::Query;
+pub use writers::write_refusal;
 
 // What reading a query replies; a refusal comes with the empty query.
 pub struct ReadQuery {

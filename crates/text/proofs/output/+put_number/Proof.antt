@@ -26,6 +26,6 @@ put-number-below t = and 1 put-number-kinds.ps (falls 1 put-number-kinds.ps _<_ 
 pub +put-number-spec : {M : Type 1} → statement M
 +put-number-spec = close μ-put-number λ t. put-number-lts.spec (put-byte-reads.Asked, put-byte-reads.Learnt, put-number-below t, put-number.Post)
     (put-number-at t) put-number.Post
-    (λ c. omega arith) (λ c. omega arith) (λ c κs. search needs) (λ c. puts-length (c .before .before .put-byte .ensures)) 
+    (λ c. omega arith) (λ c. omega arith) (λ c κs. search needs) (λ c. puts-length (c .before .before .put-byte .ensures))
     (λ c. puts-as (sym (digits-few _ (c .before .before .before .before .if1 .taken))) (c .before .before .put-byte .ensures))
     (λ c κs. (omega arith, search needs)) (λ c. omega arith) (λ c. omega arith) (λ c κs. search needs) (λ c. puts-length (puts-then (c .before .before .before .before .before .before .put-number .ensures) (c .before .before .put-byte2 .ensures))) (λ c. puts-as (sym (digits-more _ (c .before .before .before .before .before .before .before .before .if1 .left))) (puts-then (c .before .before .before .before .before .before .put-number .ensures) (c .before .before .put-byte2 .ensures)))

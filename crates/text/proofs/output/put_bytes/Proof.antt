@@ -22,9 +22,11 @@ loop-again : tie.Need-loop-again Inv-loop μ-loop
 loop-again c =
     let t = c .before .before .before .before .before .before in
     let text : List ℕ = t .before .before .before .args .text .now in
-    let i : ℕ = t .loop .i in
-    (omega arith, search needs,
-     puts-as (sym (take-suc text i 0 (omega arith)) ∙ ap (λ k. take k text) (sym (add-one i))) (puts-then (t .loop .inv .2) (c .before .before .put-byte .ensures)))
+    let i : ℕ = t .loop .i in (
+      omega arith,
+      search needs,
+      puts-as (sym (take-suc text i 0 (omega arith)) ∙ ap (λ k. take k text) (sym (add-one i))) (puts-then (t .loop .inv .2) (c .before .before .put-byte .ensures)),
+    )
 
 returns : tie.Need-returns Inv-loop μ-loop
 returns c = let h : length (c .before .before .before .before .args .text .now) ≤ c .before .loop .i = omega arith in
