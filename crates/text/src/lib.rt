@@ -5,6 +5,7 @@ mod writers;
 use database::Database;
 use database::Verdict;
 use query::Query;
+pub use writers::write_query;
 pub use writers::write_refusal;
 
 // What reading a query replies; a refusal comes with the empty query.

@@ -43,12 +43,6 @@ pub fn put_number(n: usize, at: usize, store: bool, out: &mut [u8]) -> usize
     put_byte(48 + (n % 10) as u8, next, store, out)
 }
 
-pub fn wide(n: u32) -> usize
-    ensures { λ r. ⌜ r ≡ n ⌝ }
-{
-    n as usize
-}
-
 // A line of a key and one number.
 pub fn put_one(key: &[u8], n: usize, at: usize, store: bool, out: &mut [u8]) -> usize
     ensures { λ r. ⌜ Puts store (lineText (now (key .entry) ++ digits n)) at (now (out .entry)) r (now (out .exit)) ⌝ }

@@ -10,9 +10,9 @@ returns : tie.Need-returns
 unfolding refusalText bytes
 returns c =
     let place = c .before .before .before .before .before in
-    puts-as (rw (place .refusal-place .ensures, place .before .wide .ensures, place .before .before .refusal-number .ensures)) (c .before .before .put-two .ensures)
+    puts-as (rw (place .refusal-place .ensures, place .before .refusal-number .ensures)) (c .before .before .put-two .ensures)
 
 pub put-refusal-spec : {M : Type 1} → statement M
 put-refusal-spec =
-    tie.close (tie.spec (λ c κs. search needs) (λ c κs. search needs) (λ c κs. search needs) (λ c. search needs) (λ c κs. search needs)
+    tie.close (tie.spec (λ c κs. search needs) (λ c. search needs) (λ c κs. search needs) (λ c. search needs) (λ c κs. search needs)
     (λ c. search needs) returns)
