@@ -8,3 +8,5 @@ pub mod SecondPass
 pub mod Formed
 pub mod Complete
 pub mod CheckedIff
+pub mod Starts
+pub mod Lengths
