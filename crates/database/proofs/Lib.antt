@@ -1,3 +1,4 @@
 pub mod Replies
 pub mod Tested
 pub mod Stored
+pub mod Columns

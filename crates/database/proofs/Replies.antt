@@ -1,12 +1,20 @@
--- A reply is a value or a refusal, not both.
-use mathlib.Core.Path.{_≡_}
+-- A reply is a value or a refusal, not both; of tests one after the other, an accepted reply says that each accepted.
+use mathlib.Core.Path.{_≡_, refl, sym}
 use Prim.Native.Nat.{ℕ}
 use native.Mathlib.Omega.{arith}
 use Rattle.database.specs.declared.Refusal.{Refusal}
-use Rattle.database.specs.Refusals.{Reply, refused, accepted}
+use Rattle.database.specs.Refusals.{Reply, refused, accepted, _>>=_}
 
 pub accepted-refused : {A : Type 0} {B : Type 0} {a : A} {r : Refusal} → accepted a ≡ refused r → B
 accepted-refused e = let z : _≡_ {A = ℕ} 0 1 = cc in absurd (omega arith)
 
 pub refused-same : {A : Type 0} {r s : Refusal} → _≡_ {A = Reply A} (refused r) (refused s) → r ≡ s
 refused-same e = cc
+
+pub accepted-same : {A : Type 0} {a b : A} → accepted a ≡ accepted b → a ≡ b
+accepted-same e = cc
+
+pub accepted-then : {A B : Type 0} (r : Reply A) (f : A → Reply B) {b : B} → r >>= f ≡ accepted b
+    → (a : A) × (r ≡ accepted a) × (f a ≡ accepted b)
+accepted-then (refused r) f e = accepted-refused (sym e)
+accepted-then (accepted a) f e = (a, refl, e)

@@ -1,8 +1,9 @@
 -- A stored book: its tables' rows, its columns, and the test that it is on the form (11). w is the number of columns.
-use mathlib.Core.Bool.{Bool, true, false, not, _&&_, _||_}
+use mathlib.Core.Path.{_≡_}
+use mathlib.Core.Bool.{Bool, true, false, not, _&&_}
 use mathlib.Core.Option.{Option, some, none}
 use mathlib.Core.List.{List, [], _∷_}
-use Prim.Native.Nat.{ℕ, zero, suc, _+_, _*_}
+use Prim.Native.Nat.{ℕ, zero, suc, _+_, _*_, _<_}
 use lib.Dec.{leb, ltb}
 use lib.ListN.{getD, drop, length}
 use Rattle.laws.specs.Lists.{if_then_else_, all, lowest, every}
@@ -61,3 +62,8 @@ module _ (w : ℕ) (d : Database) where
     checkDatabase = do
       _ ← require (leb (d .tables) tableLimit) (DatabaseForm tableLimit)
       elim (lowest tableOk (d .tables)) [ none ↦ accepted tt | some t ↦ refused (DatabaseForm t) ]
+
+-- a stored book "has that book's columns: as many tables, those of one number having the same columns"
+pub record SameColumns (w : ℕ) (d e : Database) : Type 0 where
+  pub count : d .tables ≡ e .tables
+  pub columns : (t : ℕ) → t < d .tables → (c : ℕ) → tableCols w d t c ≡ tableCols w e t c

@@ -1,1 +1,4 @@
 pub mod Starred
+pub mod RunIsMeaning
+pub mod RewritesInvisible
+pub mod AtReach

@@ -5,3 +5,4 @@ pub mod Options
 pub mod TextLists
 pub mod Faults
 pub mod Passes
+pub mod PlanLists

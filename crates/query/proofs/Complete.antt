@@ -1,10 +1,10 @@
 -- A closed term with distinct fix numbers gets no fault in either pass; the same for a path of v where var=v is allowed.
-use mathlib.Core.Path.{_≡_, refl, ap, sym, _∙_, subst, subst₂}
-use mathlib.Core.Bool.{Bool, true, false, not, _&&_, _||_}
+use mathlib.Core.Path.{_≡_, refl, _∙_, subst, subst₂}
+use mathlib.Core.Bool.{Bool, true, false, not, _&&_}
 use mathlib.Core.List.{List, [], _∷_, _++_, append-assoc}
 use Prim.Native.Nat.{ℕ, _+_}
 use borrow.Author.Tests.{lt-ltb}
-use Rattle.laws.specs.Lists.{_==_, member, every}
+use Rattle.laws.specs.Lists.{member}
 use Rattle.laws.proofs.Tests.{or-true-left, or-true-right}
 use Rattle.laws.proofs.Lists.{member-head}
 use Rattle.laws.proofs.Faults.{append-none, member-append}
@@ -12,12 +12,12 @@ use Rattle.algebra.specs.declared.Pairing.{Pairing}
 use Rattle.algebra.specs.declared.Pairing.the-variants.{Union, Join, Except}
 use Rattle.algebra.specs.Term.{Term, pair, fix}
 use Rattle.algebra.specs.Columns.{Cols, noCols, Schema, cols, free, isClosed, size, fixNumbers, named}
-use Rattle.algebra.specs.WellFormed.{Each, Sides, Closed, c-table, c-fact, c-pair, c-filter, c-copy, c-drop, c-fix, Path, p-var, p-union, p-left, p-right, p-except, p-filter, p-copy, p-drop}
+use Rattle.algebra.specs.WellFormed.{Sides, Closed, c-table, c-fact, c-pair, c-filter, c-copy, c-drop, c-fix, Path, p-var, p-union, p-left, p-right, p-except, p-filter, p-copy, p-drop}
 use Rattle.algebra.proofs.ColumnSets.{same-at}
 use Rattle.algebra.proofs.Each.{each-map, each-every}
 use Rattle.algebra.proofs.Typing.{cols-closed}
 use Rattle.algebra.proofs.Open.{closed-closed, path-open}
-use Rattle.query.specs.Check.{unless, pairFaults, sameCols, sidesOk, firstPass, secondPass}
+use Rattle.query.specs.Check.{unless, pairFaults, firstPass, secondPass}
 use Rattle.query.proofs.Distinct.{Apart, apart-left, apart-one}
 use Rattle.query.proofs.FirstPass.{unless-none, pair-clear, fix-clear}
 use Rattle.query.proofs.SecondPass.{same-cols, same-sides, pair-columns, fix-columns}

@@ -1,12 +1,11 @@
 -- Distinct numbers by counting: no number stands twice exactly if each is counted at most once.
-use mathlib.Core.Path.{_≡_, ap}
+use mathlib.Core.Path.{_≡_}
 use mathlib.Core.Bool.{false}
 use mathlib.Core.List.{List, [], _∷_, _++_}
 use mathlib.Core.Logic.{inl, inr, _↔_}
-use Prim.Native.Nat.{ℕ, _+_, _≤_}
+use Prim.Native.Nat.{ℕ, _≤_}
 use native.Mathlib.Omega.{arith}
-use lib.Dec.{eqb}
-use Rattle.laws.specs.Lists.{if_then_else_, member}
+use Rattle.laws.specs.Lists.{member}
 use Rattle.laws.proofs.Tests.{same?}
 use Rattle.laws.proofs.Lists.{count, count-head, count-append, absent-count, count-absent}
 use Rattle.algebra.specs.WellFormed.{Distinct}

@@ -2,13 +2,12 @@
 use mathlib.Core.Path.{_≡_, refl, ap, sym, _∙_, subst}
 use mathlib.Core.Bool.{Bool, true, false, not, _||_}
 use mathlib.Core.List.{List, [], _∷_, _++_, append-assoc, append-nil}
-use mathlib.Core.Logic.{_⊎_, inl, inr, _↔_}
-use Prim.Native.Nat.{ℕ, _+_, _≤_}
-use native.Mathlib.Omega.{arith}
+use mathlib.Core.Logic.{inl, inr, _↔_}
+use Prim.Native.Nat.{ℕ, _+_}
 use lib.Dec.{eqb}
 use Rattle.laws.specs.Lists.{null, any, member, sift}
-use Rattle.laws.proofs.Tests.{true-false, same?, eqb-self, not-false, or-true-left}
-use Rattle.laws.proofs.Lists.{count, count-append, count-head, absent-count, count-absent, member-head}
+use Rattle.laws.proofs.Tests.{true-false, same?, not-false}
+use Rattle.laws.proofs.Lists.{member-head}
 use Rattle.laws.proofs.Faults.{append-none, member-append, member-sift}
 use Rattle.algebra.specs.declared.Pairing.{Pairing}
 use Rattle.algebra.specs.Term.{Term, table, var, fact, pair, filter, copy, drop, fix}

@@ -1,16 +1,15 @@
 -- A term in which neither pass finds a fault is closed, or on the path of its only free variable.
-use mathlib.Core.Path.{_≡_, refl, ap, sym, _∙_, subst, subst₂}
+use mathlib.Core.Path.{_≡_, refl, sym, _∙_, subst, subst₂}
 use mathlib.Core.Bool.{Bool, true, false, not, _&&_}
 use mathlib.Core.List.{List, [], _∷_, _++_}
-use mathlib.Core.Logic.{_⊎_, inl, inr}
+use mathlib.Core.Logic.{inl, inr}
 use Prim.Native.Nat.{ℕ, _+_}
-use native.Mathlib.Omega.{arith}
 use lib.Dec.{eqb}
 use borrow.Author.Tests.{ltb-true}
-use Rattle.laws.specs.Lists.{if_then_else_, null, any, member, sift, every}
+use Rattle.laws.specs.Lists.{null, any, member, sift}
 use Rattle.laws.proofs.Tests.{true-false, same?, and-true-left, and-true-right, not-false}
-use Rattle.laws.proofs.Lists.{sift-append, null-append}
-use Rattle.laws.proofs.Faults.{cons-none, append-none, null-none}
+use Rattle.laws.proofs.Lists.{sift-append}
+use Rattle.laws.proofs.Faults.{cons-none, append-none, null-none, null-split, null-both, member-open}
 use Rattle.algebra.specs.declared.Pairing.{Pairing}
 use Rattle.algebra.specs.declared.Pairing.the-variants.{Union, Join, Except}
 use Rattle.algebra.specs.declared.Condition.{Condition}
@@ -21,26 +20,13 @@ use Rattle.algebra.proofs.ColumnSets.{same-at}
 use Rattle.algebra.proofs.Each.{each-map, every-each}
 use Rattle.algebra.proofs.Typing.{cols-closed}
 use Rattle.algebra.proofs.Narrow.{Below, Narrow, below-none, narrow-cols}
-use Rattle.query.specs.Check.{unless, pairFaults, sidesOk, firstPass, secondPass}
+use Rattle.query.specs.Check.{unless, pairFaults, firstPass, secondPass}
 use Rattle.query.proofs.FirstPass.{unless-none, pair-clear, fix-clear, root-closed}
 use Rattle.query.proofs.SecondPass.{cols-same, sides-same, pair-columns, fix-columns}
 
 -- the variables other than v
 abbrev others : ℕ → List ℕ → List ℕ
 others v = sift (λ u. not (eqb u v))
-
-null-split : {A : Type 0} (l m : List A) → null (l ++ m) ≡ true → (null l ≡ true) × (null m ≡ true)
-null-split [] m e = (refl, e)
-null-split (a ∷ l) m e = true-false (sym e)
-
-null-both : {A : Type 0} (l m : List A) → null l ≡ true → null m ≡ true → null (l ++ m) ≡ true
-null-both [] m e f = f
-null-both (a ∷ l) m e f = e
-
-member-open : (v : ℕ) (l : List ℕ) → member v l ≡ true → null l ≡ false
-unfolding any
-member-open v [] e = sym e
-member-open v (u ∷ l) e = refl
 
 others-append : (v : ℕ) (l m : List ℕ) → others v (l ++ m) ≡ [] → (others v l ≡ []) × (others v m ≡ [])
 others-append v l m e = append-none (others v l) (others v m) .0 (sym (sift-append (λ u. not (eqb u v)) l m) ∙ e)

@@ -10,3 +10,15 @@ pub mod Complete
 pub mod CheckedIff
 pub mod Starts
 pub mod Lengths
+pub mod InOrder
+pub mod FaultRuns
+pub mod FaultOrder
+pub mod NarrowLines
+pub mod CheckReply
+pub mod CheckTests
+pub mod Checked
+pub mod CheckedOver
+pub mod Parts
+pub mod PartsFine
+pub mod SwapRead
+pub mod Replaced

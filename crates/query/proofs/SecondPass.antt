@@ -1,13 +1,12 @@
 -- The second pass without a fault: what it says of a term's parts and of their columns. On columns below the width its tests, which
 -- look below the width, compare whole sets.
-use mathlib.Core.Path.{_≡_, refl, ap, sym, _∙_, subst, fun-ext}
-use mathlib.Core.Bool.{Bool, true, false, not, _&&_}
-use mathlib.Core.List.{List, [], _∷_, _++_}
-use mathlib.Core.Logic.{_⊎_, inl, inr, _↔_}
+use mathlib.Core.Path.{_≡_, refl, ap, sym, _∙_, fun-ext}
+use mathlib.Core.Bool.{true, false}
+use mathlib.Core.List.{[]}
+use mathlib.Core.Logic.{inl, inr, _↔_}
 use Prim.Native.Nat.{ℕ, _+_, _<_}
 use native.Mathlib.Decide.{decLt}
-use Rattle.laws.specs.Lists.{_==_, all, every}
-use Rattle.laws.proofs.Tests.{true-false}
+use Rattle.laws.specs.Lists.{_==_}
 use Rattle.laws.proofs.Lists.{all-below, all-true}
 use Rattle.laws.proofs.Faults.{agree-iff, append-none, true-or-false}
 use Rattle.algebra.specs.declared.Pairing.{Pairing}
@@ -16,8 +15,7 @@ use Rattle.algebra.specs.Term.{Term, pair, fix}
 use Rattle.algebra.specs.Columns.{Cols, Schema, cols, size}
 use Rattle.algebra.specs.WellFormed.{Sides}
 use Rattle.algebra.proofs.Narrow.{Below}
-use Rattle.database.specs.declared.Refusal.the-variants.{ColumnFault}
-use Rattle.query.specs.Check.{unless, sameCols, sidesOk, secondPass}
+use Rattle.query.specs.Check.{sameCols, sidesOk, secondPass}
 use Rattle.query.proofs.FirstPass.{unless-none}
 
 -- from the width on a set below it has no column

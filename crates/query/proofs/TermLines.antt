@@ -1,5 +1,5 @@
 -- A list of lines reads to a term exactly if it is that term's lines.
-use mathlib.Core.Path.{_≡_, refl, ap, sym, _∙_}
+use mathlib.Core.Path.{_≡_, ap, sym, _∙_}
 use mathlib.Core.List.{List, [], _∷_, append-nil}
 use mathlib.Core.Logic.{_↔_}
 use lib.ListN.{length}

@@ -3,3 +3,7 @@ pub mod RuleLines
 pub mod Around
 pub mod RuleExact
 pub mod OnForm
+pub mod NodeParts
+pub mod RewriteExact
+pub mod Held
+pub mod RuleSheet

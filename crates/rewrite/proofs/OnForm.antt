@@ -3,8 +3,11 @@ use mathlib.Core.Path.{_≡_, refl, ap, sym, _∙_}
 use mathlib.Core.Bool.{Bool, true, false, _&&_}
 use mathlib.Core.Logic.{inl, inr}
 use mathlib.Core.List.{List, [], _∷_, _++_}
-use Prim.Native.Nat.{ℕ}
+use Prim.Native.Nat.{ℕ, zero, suc, _<_}
+use native.Mathlib.Omega.{arith}
+use native.Mathlib.Nat.{not-suc-le-zero, le-of-suc-le-suc}
 use lib.Dec.{eqb, ltb}
+use lib.ListN.{length, getD}
 use Rattle.laws.specs.Lists.{if_then_else_, every}
 use Rattle.laws.proofs.Tests.{same?, and-true, and-true-left, and-true-right}
 use Rattle.algebra.specs.declared.Pairing.the-variants.{Join, Union, Except}
@@ -38,6 +41,16 @@ module _ {w : ℕ} where
   pub form-split : (l : List Node) {m : List Node} → OnForm w (l ++ m) → OnForm w l × OnForm w m
   form-split [] h = (none-left, h)
   form-split (n ∷ l) (_then_ e h) = let (a, b) = form-split l h in (_then_ e a, b)
+
+  -- line by line
+  pub form-index : (l : List Node) (d : Node) → ((i : ℕ) → i < length l → onForm w (getD l i d) ≡ true) → OnForm w l
+  form-index [] d h = none-left
+  form-index (n ∷ l) d h = _then_ (h zero (omega arith)) (form-index l d (λ i k. h (suc i) (omega arith)))
+
+  pub form-at : {l : List Node} → OnForm w l → (d : Node) (i : ℕ) → i < length l → onForm w (getD l i d) ≡ true
+  form-at none-left d i k = absurd (not-suc-le-zero k)
+  form-at (_then_ e h) d zero k = e
+  form-at (_then_ e h) d (suc i) k = form-at h d i (le-of-suc-le-suc k)
 
   form-one : {n : Node} → OnForm w (n ∷ []) → onForm w n ≡ true
   form-one (_then_ e _) = e

@@ -57,3 +57,11 @@ module _ (G : Schema) (C : Cols) (k : ℕ) (a : Term) where
       by-match (some m) e =
           let r : Narrow G (redex m) = subst (Narrow G) (matched k a e) n in
           tested m e (stableEnough G C m) (unusedEnough G C m) (closedEnough m) (stable-iff G C below m r) (unused-iff G C below m r) (closed-iff m)
+
+  -- where all conditions hold the rule is accepted
+  pub rule-allowed : Below (G .width) C → Narrow G a → (m : Match) → match k a ≡ some m
+      → StableColumns G C m → UnusedColumns G C m → OperandClosed m → rule G C k a ≡ accepted (written m)
+  unfolding rule
+  rule-allowed below n m found h i j =
+      let r : Narrow G (redex m) = subst (Narrow G) (matched k a found) n in
+      rw (found, stable-iff G C below m r .1 h, unused-iff G C below m r .1 i, closed-iff m .1 j)

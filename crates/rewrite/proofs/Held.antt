@@ -1,0 +1,179 @@
+-- What a list of steps keeps: the held sheet is checked over the first book's columns, and its term may be put for the first sheet's.
+use mathlib.Core.Path.{_≡_, refl, ap, sym, _∙_, subst}
+use mathlib.Core.Logic.{_⊎_, inl, inr}
+use mathlib.Core.Bool.{true}
+use mathlib.Core.List.{List, [], _∷_, _++_, map}
+use Prim.Native.Nat.{ℕ, _+_, _-_, _≤_}
+use native.Mathlib.Omega.{arith}
+use lib.ListN.{length, take, drop as dropFirst, getD, length-take, length-map}
+use lib.Seq.{take-at}
+use Rattle.laws.proofs.TextLists.{Each}
+use Rattle.algebra.specs.Term.{Term, table, var, fact, pair, filter, copy, drop, fix}
+use Rattle.algebra.specs.Columns.{Cols, noCols, Schema, size}
+use Rattle.algebra.specs.WellFormed.{Closed, Path, WellFormed}
+use Rattle.algebra.specs.Rules.{Match, match, written}
+use Rattle.algebra.proofs.Narrow.{Narrow, below-none}
+use Rattle.algebra.proofs.Redex.{redex, matched}
+use Rattle.algebra.proofs.Conditions.{stable-iff, unused-iff, closed-iff}
+use Rattle.algebra.proofs.Sound.{Sound, rule-sound, match-open}
+use Rattle.algebra.proofs.Swap.{Swap, swap-refl, swap-sound, swap-trans, swap-wellformed}
+use Rattle.database.specs.declared.Database.{Database}
+use Rattle.database.specs.Stored.{schema, SameColumns}
+use Rattle.database.specs.Refusals.{Reply, refused, accepted, _>>=_}
+use Rattle.database.proofs.Replies.{accepted-then, accepted-same}
+use Rattle.database.proofs.Stored.{table-below}
+use Rattle.database.proofs.Columns.{same-schema}
+use Rattle.query.specs.declared.Node.{Node}
+use Rattle.query.specs.declared.Node.the-variants.{Table}
+use Rattle.query.specs.declared.Line.{Line}
+use Rattle.query.specs.declared.Query.{Query}
+use Rattle.query.specs.Lines.{nodes, line, onForm, lines, termOf}
+use Rattle.query.specs.Check.{checkOver}
+use Rattle.query.proofs.Reading.{size-lines}
+use Rattle.query.proofs.TermLines.{term-lines}
+use Rattle.query.proofs.Prefix.{node-lines, node-before}
+use Rattle.query.proofs.CheckReply.{Checked}
+use Rattle.query.proofs.CheckTests.{checked-narrow}
+use Rattle.query.proofs.CheckedOver.{check-over-iff}
+use Rattle.query.proofs.PartsFine.{parts-fine}
+use Rattle.query.proofs.Replaced.{Replaced, replaced}
+use Rattle.rewrite.specs.Rewrite.{rewrite, withNodes, handedBack, Step, held}
+use Rattle.rewrite.specs.Rewrite as R
+use Rattle.rewrite.proofs.OnForm.{OnForm, form-append, form-split, form-index, form-at, form-written}
+use Rattle.rewrite.proofs.NodeParts.{EndsAt, ends-at, part-narrow, around-narrow}
+use Rattle.rewrite.proofs.RewriteExact.{Accepted, accepted-iff}
+
+-- the lines of a query made from lines
+lines-first : (ns : List Node) (rest : List Line) → map (λ (l : Line). l .node) (take (length ns) (map line ns ++ rest)) ≡ ns
+lines-first [] rest = refl
+lines-first (x ∷ ns) rest = ap (λ (l : List Node). x ∷ l) (lines-first ns rest)
+
+pub lines-back : (q : Query) (ns : List Node) → nodes (withNodes q ns) ≡ ns
+lines-back q ns = lines-first ns (dropFirst (length ns) (q .lines))
+
+few-nodes : (q : Query) → length (nodes q) ≤ q .count
+few-nodes q = omega (arith, length-map (take (q .count) (q .lines)) (λ (l : Line). l .node), length-take (q .count) (q .lines))
+
+size-some : (t : Term) → 1 ≤ size t
+unfolding size
+size-some (table t) = omega arith
+size-some (var v) = omega arith
+size-some (fact c x) = omega arith
+size-some (pair o a b) = omega arith
+size-some (filter f a) = omega arith
+size-some (copy c d a) = omega arith
+size-some (drop c a) = omega arith
+size-some (fix v a b) = omega arith
+
+-- an accepted step was given a checked sheet
+checked-first : (w limit : ℕ) (q : Query) (d : Database) (store : List ℕ) (k n : ℕ) (p : Query) → rewrite w limit q d store k n ≡ accepted p
+    → (t : Term) × (checkOver w limit q d store ≡ accepted t)
+unfolding rewrite
+checked-first w limit q d store k n p e = let (t, h, _) = accepted-then (checkOver w limit q d store) _ e in (t, h)
+
+pub record Kept (limit : ℕ) (G : Schema) (t : Term) (p : Query) : Type 1 where
+  pub term : Term
+  pub checked : Checked limit p G term
+  pub swap : Swap G t term
+
+module _ (w limit : ℕ) (q : Query) (d : Database) (store : List ℕ) (t : Term) (over : checkOver w limit q d store ≡ accepted t) (k n : ℕ)
+    (p : Query) (x : Accepted w limit q d store t over k n p) where
+  abbrev G : Schema
+  G = schema w d
+
+  abbrev a : Term
+  a = x .node
+
+  abbrev m : Match
+  m = x .found
+
+  checkedNow : Checked limit q G t
+  checkedNow = check-over-iff w limit q d store t .0 over .1
+
+  reads : termOf (nodes q) ≡ accepted t
+  reads = term-lines (nodes q) t .1 (checkedNow .written)
+
+  ends : EndsAt (nodes q) n a
+  ends = ends-at (nodes q) n a (x .ends)
+
+  narrow : Narrow G a
+  narrow = part-narrow w limit q d store t over n a (x .ends)
+
+  redex-narrow : Narrow G (redex m)
+  redex-narrow = subst (Narrow G) (matched k a (x .matches)) narrow
+
+  -- the node is closed: at an open one no step is accepted
+  pub node-closed : Closed G a
+  node-closed = elim (parts-fine G (nodes q) t reads n a (ends .stack) (ends .reads) (checkedNow .well-formed .closed)) [
+    | inl c ↦ c
+    | inr (v, D, path) ↦ absurd (match-open path k m (x .matches) (closed-iff m .1 (x .closed)))
+  ]
+
+  sound : Sound G a (written m)
+  sound =
+      let b = around-narrow w limit q d store t over n in
+      rule-sound node-closed narrow k _ m (x .matches) (stable-iff G _ b m redex-narrow .1 (x .stable)) (unused-iff G _ b m redex-narrow .1 (x .unused))
+
+  now : Replaced G t (R.replaced (nodes q) n a (written m))
+  now = replaced (nodes q) t n a (written m) (ends .stack) (ends .within) reads (ends .reads) (swap-sound node-closed sound)
+
+  -- the lines of the rule's sheet are on the form
+  form : OnForm w (R.replaced (nodes q) n a (written m))
+  form =
+      let ns = nodes q in
+      let parts : ns ≡ take (n - size a) ns ++ (lines a ++ dropFirst n ns) =
+      rw (node-before ns n a (ends .stack) (ends .reads) (ends .within)) (node-lines ns n a (ends .stack) (ends .reads)) in
+      let all : OnForm w ns = form-index ns (Table 0) (λ i h. checkedNow .on-form i (let f = few-nodes q in omega arith)) in
+      let (before, rest) = form-split (take (n - size a) ns) (subst (OnForm w) parts all) in
+      let (own, after) = form-split (lines a) rest in
+      form-append before (form-append (form-written m (subst (λ (b : Term). OnForm w (lines b)) (matched k a (x .matches)) own)) after)
+
+  -- so the rule's sheet is checked
+  step-checked : Checked limit (withNodes q (R.replaced (nodes q) n a (written m))) G (now .term)
+  step-checked =
+      let ns = R.replaced (nodes q) n a (written m) in
+      let lines-now : ns ≡ lines (now .term) = term-lines ns (now .term) .0 (now .reads) in
+      let same : length ns ≡ length (nodes q) =
+      ap length lines-now ∙ size-lines (now .term) ∙ now .swap .same-size ∙ sym (size-lines t) ∙ ap length (sym (checkedNow .written)) in
+      let f = few-nodes q in
+      let h = checkedNow .in-range in
+      record {
+        in-range = (omega (arith, ap length lines-now, size-lines (now .term), size-some (now .term)), omega arith);
+        on-form = λ i k. subst (λ (l : List Node). onForm w (getD l i (Table 0)) ≡ true) (sym (lines-back q ns)) (form-at form (Table 0) i k);
+        written = lines-back q ns ∙ lines-now;
+        well-formed = swap-wellformed (now .swap) (checkedNow .well-formed);
+      }
+
+  pub step-kept : Kept limit G t p
+  step-kept = record {
+    term = now .term;
+    checked = subst (λ (r : Query). Checked limit r G (now .term)) (sym (x .hands)) step-checked;
+    swap = now .swap;
+  }
+
+-- one step, over a book with the columns G
+module _ (w limit : ℕ) (G : Schema) (t : Term) where
+  -- the checked term of a query is one
+  one-term : (q : Query) (s u : Term) → Checked limit q G s → Checked limit q G u → s ≡ u
+  one-term q s u c e = accepted-same (sym (term-lines (nodes q) s .1 (c .written)) ∙ term-lines (nodes q) u .1 (e .written))
+
+  kept-then : {q p : Query} (c : Kept limit G t q) (e : Kept limit G (c .term) p) → Kept limit G t p
+  kept-then c e = record { term = e .term; checked = e .checked; swap = swap-trans (c .swap) (e .swap) }
+
+  kept-step : (q : Query) → Kept limit G t q → (s : Step) → schema w (s .database) ≡ G
+      → Kept limit G t (handedBack q (rewrite w limit q (s .database) (s .store) (s .kind) (s .node)))
+  kept-step q c s same = by-reply (rewrite w limit q (s .database) (s .store) (s .kind) (s .node)) refl
+    where
+      by-reply : (r : Reply Query) → rewrite w limit q (s .database) (s .store) (s .kind) (s .node) ≡ r → Kept limit G t (handedBack q r)
+      by-reply (refused _) e = c
+      by-reply (accepted p) e =
+          let (u, over) = checked-first w limit q (s .database) (s .store) (s .kind) (s .node) p e in
+          let x = accepted-iff w limit q (s .database) (s .store) u over (s .kind) (s .node) p .0 e in
+          let k : Kept limit G u p = subst (λ (H : Schema). Kept limit H u p) same (step-kept w limit q (s .database) (s .store) u over (s .kind) (s .node) p x) in
+          let i : u ≡ c .term = one-term q u (c .term) (subst (λ (H : Schema). Checked limit q H u) same (check-over-iff w limit q (s .database) (s .store) u .0 over .1)) (c .checked) in
+          kept-then c (subst (λ (v : Term). Kept limit G v p) i k)
+
+  pub kept-all : (q : Query) → Kept limit G t q → (steps : List Step) → Each (λ (s : Step). schema w (s .database) ≡ G) steps → Kept limit G t (held w limit q steps)
+  unfolding held
+  kept-all q c [] h = c
+  kept-all q c (s ∷ steps) (e, h) = kept-all _ (kept-step q c s e) steps h
