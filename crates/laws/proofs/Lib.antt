@@ -6,3 +6,4 @@ pub mod TextLists
 pub mod Faults
 pub mod Passes
 pub mod PlanLists
+pub mod Writers

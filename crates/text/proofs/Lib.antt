@@ -5,3 +5,4 @@ pub mod Puts
 pub mod LastDigit
 pub mod Measured
 pub mod PrintedLines
+pub mod QueryLines

@@ -83,7 +83,11 @@ fn put_node(node: Node, at: usize, store: bool, out: &mut [u8]) -> usize
 fn line_count(query: Query) -> usize
     ensures { λ n. ⌜ n ≡ length (nodes query) ⌝ }
 {
-    if query.count < NODES { query.count } else { NODES }
+    if query.count < NODES {
+        query.count
+    } else {
+        NODES
+    }
 }
 
 fn put_lines(query: Query, at: usize, store: bool, out: &mut [u8]) -> usize
@@ -112,7 +116,7 @@ pub fn write_query(query: Query, out: &mut [u8]) -> Written
     ensures { λ w. ⌜
         (w ≡ writeReply (queryText (nodes query)) (now (out .entry)))
         × (now (out .exit) ≡ sliceAfter (queryText (nodes query)) (now (out .entry)))
-    ⌝ }
+        ⌝ }
 {
     let size = put_query(query, false, out);
     if out.len() < size {
