@@ -68,7 +68,23 @@ def no_public_function_without_a_contract():
     return bad
 
 
+def the_pages_show_the_cases():
+    """Each example of docs/WHY.md is a test case, word for word: its sheet, its step and what it prints."""
+    page = (TOP / "docs" / "WHY.md").read_text()
+    bad = []
+    found = re.findall(r"Case `([\w-]+)`, with the step `([^`]*)`:\n\n```\n(.*?)```\n\nprints\n\n```\n(.*?)```", page, re.S)
+    for name, step, sheet, printed in found:
+        case = TOP / "tests" / "cases" / name
+        for file, text in (("sheet.txt", sheet), ("steps.txt", step + "\n"), ("expected.txt", printed)):
+            if not case.is_dir() or (case / file).read_text() != text:
+                bad.append(f"docs/WHY.md: {name} is not what tests/cases/{name}/{file} says")
+    if len(found) < 12:
+        bad.append("docs/WHY.md shows fewer than two examples for each of the six kinds")
+    return bad
+
+
 TESTS = [
+    the_pages_show_the_cases,
     every_crate_is_in_the_readme,
     the_width_stands_once,
     no_axioms_and_no_holes,

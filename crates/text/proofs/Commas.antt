@@ -1,7 +1,7 @@
 -- The parts of a line between its commas.
-use mathlib.Core.Path.{_≡_, refl, ap, sym, _∙_}
+use mathlib.Core.Path.{_≡_, refl, ap}
 use mathlib.Core.Bool.{Bool, true, false}
-use mathlib.Core.List.{List, [], _∷_, _++_, append-nil}
+use mathlib.Core.List.{List, [], _∷_, _++_}
 use Prim.Native.Nat.{ℕ}
 use lib.Dec.{eqb}
 use borrow.Author.Tests.{eqb-true}
@@ -46,7 +46,8 @@ unfolding parts joined
 joined-parts [] = refl
 joined-parts (b ∷ l) = by-test (eqb b comma) refl (parts l) (parts-null l) (joined-parts l)
   where
-    by-test : (t : Bool) → eqb b comma ≡ t → (ls : List (List ℕ)) → null ls ≡ false → joined ls ≡ l → joined (if t then [] ∷ ls else intoFirst b ls) ≡ b ∷ l
+    by-test : (t : Bool) → eqb b comma ≡ t → (ls : List (List ℕ)) → null ls ≡ false → joined ls ≡ l
+        → joined (if t then [] ∷ ls else intoFirst b ls) ≡ b ∷ l
     by-test t e [] h j = true-false h
     by-test true e (m ∷ ls) h j = rw (eqb-true b comma e) (ap (λ r. comma ∷ r) j)
     by-test false e (m ∷ []) h j = ap (λ r. b ∷ r) j

@@ -1,16 +1,15 @@
 -- The digits that a number is printed with, and the value that digits have.
 use mathlib.Core.Path.{_≡_, refl, ap, sym, _∙_}
-use mathlib.Core.Bool.{Bool, true, false, not, _&&_}
+use mathlib.Core.Bool.{Bool, true, false}
 use mathlib.Core.Logic.{_⊎_, inl, inr, _≢_}
-use mathlib.Core.List.{List, [], _∷_, _++_}
+use mathlib.Core.List.{List, [], _∷_}
 use Prim.Native.Nat.{ℕ, zero, suc, _+_, _-_, _*_, _/_, _%_, _≤_, _<_}
 use native.Mathlib.Omega.{arith}
 use native.Mathlib.Nat.{not-suc-le-zero}
-use lib.Dec.{eqb, leb, ltb}
+use lib.Dec.{leb, ltb}
 use borrow.Author.Tests.{ltb-true, ltb-false, lt-ltb, le-ltb, leb-true, le-leb, eq-eqb, ne-eqb}
 use Rattle.laws.specs.Lists.{every, null}
-use Rattle.laws.proofs.Tests.{true-false, and-true-left, and-true-right, same?}
-use Rattle.laws.proofs.TextLists.{and-true}
+use Rattle.laws.proofs.Tests.{true-false, and-true-left, and-true-right, same?, and-true}
 use Rattle.text.specs.Numbers.{isDigit, valueFrom, isZero, digitsBefore, digits}
 
 -- a number of one digit, or one more digit behind those of its tenth
@@ -38,14 +37,14 @@ digits-null (suc f) n tail h = elim (few? n) [
 ]
 
 digit : (d : ℕ) → d < 10 → isDigit (48 + d) ≡ true
-digit d h = and-true (le-leb 48 (48 + d) (omega arith)) (le-leb (48 + d) 57 (omega arith))
+digit d h = and-true _ _ (le-leb 48 (48 + d) (omega arith)) (le-leb (48 + d) 57 (omega arith))
 
 digits-every : (f n : ℕ) (tail : List ℕ) → n < f → every isDigit tail ≡ true → every isDigit (digitsBefore f n tail) ≡ true
 unfolding every
 digits-every zero n tail h e = absurd (not-suc-le-zero h)
 digits-every (suc f) n tail h e = elim (few? n) [
-  | inl k ↦ rw (one-digit f n tail k) (and-true (digit n k) e)
-  | inr k ↦ rw (more-digits f n tail k) (digits-every f (n / 10) ((48 + n % 10) ∷ tail) (omega arith) (and-true (digit (n % 10) (omega arith)) e))
+  | inl k ↦ rw (one-digit f n tail k) (and-true _ _ (digit n k) e)
+  | inr k ↦ rw (more-digits f n tail k) (digits-every f (n / 10) ((48 + n % 10) ∷ tail) (omega arith) (and-true _ _ (digit (n % 10) (omega arith)) e))
 ]
 
 pub digits-digits : (n : ℕ) → every isDigit (digits n) ≡ true

@@ -1,31 +1,32 @@
--- Numbers, and numbers with commas between, as texts: what the printer prints is what the reader accepts.
-use mathlib.Core.Path.{_≡_, refl, ap, ap₂, sym, _∙_, subst}
+-- Numbers as texts: what the printer prints is what the reader accepts.
+use mathlib.Core.Path.{_≡_, ap, sym, _∙_, subst}
 use mathlib.Core.Bool.{Bool, true, false, not, _&&_}
-use mathlib.Core.Option.{Option, some, none}
-use mathlib.Core.List.{List, [], _∷_, _++_}
+use mathlib.Core.Option.{some}
+use mathlib.Core.List.{List, []}
 use Prim.Native.Nat.{ℕ, suc, _≤_}
 use native.Mathlib.Omega.{arith}
 use lib.Dec.{leb, eqb}
 use borrow.Author.Tests.{leb-true, le-leb, ne-eqb}
-use Rattle.laws.specs.Lists.{if_then_else_, every, null}
-use Rattle.laws.proofs.Tests.{true-false, not-false}
-use Rattle.laws.proofs.Options.{some-inj, none-some}
-use Rattle.laws.proofs.TextLists.{Each, each-map, each-append, every-each, and-true, both-true, kept}
-use Rattle.text.specs.Numbers.{comma, maxNumber, isDigit, valueFrom, isZero, number, digits, parts, readAll, numbers, commaDigits}
-use Rattle.text.proofs.Commas.{Without, joined, one-part, more-parts, parts-null, joined-parts}
+use Rattle.laws.specs.Lists.{every, null}
+use Rattle.laws.proofs.Tests.{true-false, not-false, and-true}
+use Rattle.laws.proofs.TextLists.{each-map, every-each, both-true, kept}
+use Rattle.text.specs.Numbers.{maxNumber, isDigit, valueFrom, isZero, number, digits}
+use Rattle.text.proofs.Commas.{Without}
 use Rattle.text.proofs.Digits.{digits-null, digits-digits, digits-value, no-leading-zero, digits-of-value}
 
+-- the test of a number's form
 abbrev onNumberForm : List ℕ → Bool
 onNumberForm l = not (null l) && every isDigit l && not (isZero l) && leb (valueFrom 0 l) maxNumber
 
+-- what is printed for a number is read as that number
 pub number-digits : (n : ℕ) → n ≤ maxNumber → number (digits n) ≡ some n
 unfolding number valueFrom
 number-digits n h =
     let value = digits-value (suc n) n [] (omega arith) in
     let small = ap (λ v. leb v maxNumber) value ∙ le-leb n maxNumber h in
     let filled = ap not (digits-null (suc n) n [] (omega arith)) in
-    let on-form : onNumberForm (digits n) ≡ true =
-    and-true (and-true (and-true filled (digits-digits n)) (ap not (no-leading-zero n))) small in
+    let front = and-true _ _ (and-true _ _ filled (digits-digits n)) (ap not (no-leading-zero n)) in
+    let on-form : onNumberForm (digits n) ≡ true = and-true _ _ front small in
     rw on-form (ap some value)
 
 -- what is read as a number is printed for that number
@@ -46,61 +47,3 @@ digit-other b e c f = ne-eqb b c (λ q. true-false (sym e ∙ ap isDigit q ∙ f
 
 pub digits-without : (n c : ℕ) → isDigit c ≡ false → Without c (digits n)
 digits-without n c f = each-map (digits n) (λ b e. digit-other b e c f) (every-each isDigit (digits n) (digits-digits n))
-
--- what the reader can hold
-abbrev pub Small : List ℕ → Type 0
-Small ns = Each (λ n. n ≤ maxNumber) ns
-
-pub comma-digits-without : (ns : List ℕ) (c : ℕ) → isDigit c ≡ false → eqb comma c ≡ false → Without c (commaDigits ns)
-unfolding commaDigits
-comma-digits-without [] c f g = tt
-comma-digits-without (n ∷ []) c f g = digits-without n c f
-comma-digits-without (n ∷ (m ∷ ns)) c f g =
-    each-append (λ b. eqb b c ≡ false) (digits n) (comma ∷ commaDigits (m ∷ ns)) (digits-without n c f) (g, comma-digits-without (m ∷ ns) c f g)
-
-read-next : (l : List ℕ) (ls : List (List ℕ)) (n : ℕ) (ns : List ℕ) → number l ≡ some n → readAll ls ≡ some ns → readAll (l ∷ ls) ≡ some (n ∷ ns)
-unfolding readAll
-read-next l ls n ns e f = rw (e, readAll) (rw (f, readAll))
-
-pub numbers-digits : (n : ℕ) (ns : List ℕ) → Small (n ∷ ns) → numbers (commaDigits (n ∷ ns)) ≡ some (n ∷ ns)
-unfolding commaDigits readAll
-numbers-digits n [] (h, _) = rw (one-part (digits n) (digits-without n comma refl)) (read-next (digits n) [] n [] (number-digits n h) refl)
-numbers-digits n (m ∷ ns) (h, k) =
-    rw (more-parts (digits n) (commaDigits (m ∷ ns)) (digits-without n comma refl))
-    (read-next (digits n) (parts (commaDigits (m ∷ ns))) n (m ∷ ns) (number-digits n h) (numbers-digits m ns k))
-
--- parts that are read are the digits of what is read
-abbrev Parts : List (List ℕ) → List ℕ → Type 0
-Parts [] [] = Unit {0}
-Parts [] (n ∷ ns) = ⊥
-Parts (l ∷ ls) [] = ⊥
-Parts (l ∷ ls) (n ∷ ns) = ((digits n ≡ l) × (n ≤ maxNumber)) × Parts ls ns
-
-read-all : (ls : List (List ℕ)) (ns : List ℕ) → readAll ls ≡ some ns → Parts ls ns
-unfolding readAll
-read-all [] ns e = subst (λ ns. Parts [] ns) (some-inj e) tt
-read-all (l ∷ ls) ns e = first (number l) refl (readAll ls) (read-all ls) e
-  where
-    first : (o : Option ℕ) → number l ≡ o → (r : Option (List ℕ)) → ((ns : List ℕ) → r ≡ some ns → Parts ls ns)
-        → elim o [ none ↦ none | some n ↦ elim r [ none ↦ none | some ns ↦ some (n ∷ ns) ] ] ≡ some ns → Parts (l ∷ ls) ns
-    first none p r f e = none-some e
-    first (some n) p none f e = none-some e
-    first (some n) p (some ms) f e = subst (λ ns. Parts (l ∷ ls) ns) (some-inj e) (digits-number l n p, f ms refl)
-
-parts-joined : (l : List ℕ) (ls : List (List ℕ)) (ns : List ℕ) → Parts (l ∷ ls) ns → (commaDigits ns ≡ joined (l ∷ ls)) × (null ns ≡ false) × Small ns
-unfolding commaDigits joined
-parts-joined l ls [] p = absurd p
-parts-joined l [] (n ∷ []) ((d, h), _) = (d, refl, (h, tt))
-parts-joined l [] (n ∷ (m ∷ ns)) (_, p) = absurd p
-parts-joined l (k ∷ ls) (n ∷ []) (_, p) = absurd p
-parts-joined l (k ∷ ls) (n ∷ (m ∷ ns)) ((d, h), p) =
-    let (e, _, s) = parts-joined k ls (m ∷ ns) p in
-    (ap₂ (λ (x y : List ℕ). x ++ (comma ∷ y)) d e, refl, (h, s))
-
--- what is read as numbers is printed for those numbers
-pub digits-numbers : (l ns : List ℕ) → numbers l ≡ some ns → (commaDigits ns ≡ l) × (null ns ≡ false) × Small ns
-digits-numbers l ns e = some-part (parts l) (parts-null l) (joined-parts l) (read-all (parts l) ns e)
-  where
-    some-part : (ls : List (List ℕ)) → null ls ≡ false → joined ls ≡ l → Parts ls ns → (commaDigits ns ≡ l) × (null ns ≡ false) × Small ns
-    some-part [] h j p = true-false h
-    some-part (m ∷ ls) h j p = let (c, f, s) = parts-joined m ls ns p in (c ∙ j, f, s)
