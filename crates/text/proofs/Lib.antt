@@ -35,3 +35,4 @@ pub mod StoredTables
 pub mod ReadTables
 pub mod StoredRoundTrip
 pub mod TextRoundTrip
+pub mod AnswerLines

@@ -71,3 +71,7 @@ module _ {store : Bool} {at : ℕ} {slice : List ℕ} where
 
   pub puts-as : {s t : List ℕ} {next : ℕ} {after : List ℕ} → s ≡ t → Puts store s at slice next after → Puts store t at slice next after
   puts-as e p = record { is = p .is ∙ ap (λ text. put store text (output at slice)) e }
+
+  -- the same under equal names
+  pub puts-at : {text : List ℕ} {next last : ℕ} {after end : List ℕ} → last ≡ next → end ≡ after → Puts store text at slice next after → Puts store text at slice last end
+  puts-at e f p = record { is = (λ i. output (e i) (f i)) ∙ p .is }

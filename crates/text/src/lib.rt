@@ -5,6 +5,7 @@ mod writers;
 use database::Database;
 use database::Verdict;
 use query::Query;
+pub use writers::write_answer;
 pub use writers::write_query;
 pub use writers::write_refusal;
 
