@@ -5,6 +5,10 @@ pub use form::check_database;
 pub use form::row_count;
 pub use form::table_columns;
 pub use form::table_start;
+mod refusals;
+
+pub use refusals::refusal_number;
+pub use refusals::refusal_place;
 use relation::Columns;
 
 // "tables and variables 0–15"

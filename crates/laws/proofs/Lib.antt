@@ -8,3 +8,4 @@ pub mod Passes
 pub mod Indexed
 pub mod PlanLists
 pub mod Readers
+pub mod Writers

@@ -13,15 +13,15 @@ use Rattle.laws.proofs.Tests.{true-false, and-true-left, and-true-right, same?,
 use Rattle.text.specs.Numbers.{isDigit, valueFrom, isZero, digitsBefore, digits}
 
 -- a number of one digit, or one more digit behind those of its tenth
-one-digit : (f n : ℕ) (tail : List ℕ) → n < 10 → digitsBefore (suc f) n tail ≡ (48 + n) ∷ tail
+pub one-digit : (f n : ℕ) (tail : List ℕ) → n < 10 → digitsBefore (suc f) n tail ≡ (48 + n) ∷ tail
 unfolding digitsBefore
 one-digit f n tail h = rw (lt-ltb n 10 h, digitsBefore)
 
-more-digits : (f n : ℕ) (tail : List ℕ) → 10 ≤ n → digitsBefore (suc f) n tail ≡ digitsBefore f (n / 10) ((48 + n % 10) ∷ tail)
+pub more-digits : (f n : ℕ) (tail : List ℕ) → 10 ≤ n → digitsBefore (suc f) n tail ≡ digitsBefore f (n / 10) ((48 + n % 10) ∷ tail)
 unfolding digitsBefore
 more-digits f n tail h = rw (le-ltb n 10 h, digitsBefore)
 
-few? : (n : ℕ) → (n < 10) ⊎ (10 ≤ n)
+pub few? : (n : ℕ) → (n < 10) ⊎ (10 ≤ n)
 few? n = by-test (ltb n 10) refl
   where
     by-test : (b : Bool) → ltb n 10 ≡ b → (n < 10) ⊎ (10 ≤ n)
@@ -75,7 +75,7 @@ no-leading-zero zero = ap isZero (one-digit 0 0 [] (omega arith))
 no-leading-zero (suc n) = digits-lead (suc (suc n)) (suc n) [] (omega arith) (omega arith)
 
 -- any fuel that is enough prints the same
-enough : (f g n : ℕ) (tail : List ℕ) → n < f → n < g → digitsBefore f n tail ≡ digitsBefore g n tail
+pub enough : (f g n : ℕ) (tail : List ℕ) → n < f → n < g → digitsBefore f n tail ≡ digitsBefore g n tail
 enough zero g n tail h k = absurd (not-suc-le-zero h)
 enough (suc f) zero n tail h k = absurd (not-suc-le-zero k)
 enough (suc f) (suc g) n tail h k = elim (few? n) [

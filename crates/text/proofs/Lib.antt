@@ -7,6 +7,11 @@ pub mod Numbers
 pub mod ReaderLawsDue
 pub mod ReaderLawsMany
 pub mod ReaderLawsQuery
+pub mod Puts
+pub mod LastDigit
+pub mod Measured
+pub mod PrintedLines
+pub mod QueryLines
 pub mod NumberLists
 pub mod Forms
 pub mod NodeForms
@@ -36,3 +41,4 @@ pub mod StoredTables
 pub mod ReadTables
 pub mod StoredRoundTrip
 pub mod TextRoundTrip
+pub mod AnswerLines

@@ -5,3 +5,4 @@ pub mod Replies
 pub mod Readings
 pub mod Cursors
 pub mod QueryReading
+pub mod Output

@@ -4,12 +4,17 @@ mod node_reader;
 mod number_reader;
 mod query_reader;
 mod step_reader;
+mod output;
+mod writers;
 
 use database::Database;
 use database::Verdict;
 use query::Query;
 pub use query_reader::read_query;
 pub use step_reader::read_step;
+pub use writers::write_answer;
+pub use writers::write_query;
+pub use writers::write_refusal;
 
 // What reading a query replies; a refusal comes with the empty query.
 pub struct ReadQuery {
