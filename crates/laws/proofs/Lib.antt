@@ -6,3 +6,4 @@ pub mod Indexed
 pub mod TextLists
 pub mod Faults
 pub mod PlanLists
+pub mod Passes

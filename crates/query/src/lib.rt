@@ -4,6 +4,10 @@ use algebra::Pairing;
 use database::Verdict;
 use relation::Columns;
 
+pub mod forms; // forms.rt: the form of a query as a value (2, 1)
+mod nodes; // nodes.rt: the line at an index and its operands
+mod shape; // shape.rt: where nodes start (3)
+
 // "node count … 1–128"
 pub const NODES: usize = 128;
 
@@ -48,4 +52,16 @@ pub struct Facts {
 pub struct CheckedQuery {
     pub verdict: Verdict,
     pub facts: Facts,
+}
+
+// Where a line's node starts, by the nodes before it, or that an operand is missing.
+enum Begin {
+    At(usize),
+    Missing,
+}
+
+// What the shape of a query replies: the starts of its nodes, in node order; zeros beside a refusal.
+struct CheckedShape {
+    pub verdict: Verdict,
+    pub start: [usize; NODES],
 }
