@@ -2,3 +2,5 @@ pub mod Replies
 pub mod Tested
 pub mod Stored
 pub mod Columns
+pub mod CodeStored
+pub mod Verdicts

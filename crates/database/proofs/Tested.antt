@@ -49,7 +49,7 @@ replied-refused false o r = (
 
 module _ (w : ℕ) (d : Database) (store : List ℕ) where
   -- what the test says of a table's entries and rows
-  table-facts : (t : ℕ) → tableOk w d store t ≡ true → (tableStart w d t + w * rowCount w d t ≤ length store)
+  pub table-facts : (t : ℕ) → tableOk w d store t ≡ true → (tableStart w d t + w * rowCount w d t ≤ length store)
       × (every (absentZero w (tableCols w d t)) (tableRows w d store t) ≡ true) × (ascend (tableRows w d store t) ≡ true)
   unfolding tableOk
   table-facts t e =

@@ -1,8 +1,17 @@
 // The database: document 01's stored book, and the refusals that every layer gives.
+mod form;
+
+pub use form::check_database;
+pub use form::row_count;
+pub use form::table_columns;
+pub use form::table_start;
 use relation::Columns;
 
 // "tables and variables 0–15"
 pub const TABLES: usize = 16;
+
+// "rows=R (0–4,096)"
+pub const TABLE_ROWS: usize = 4096;
 
 // A stored book: how many tables, the columns of each and its row count. The rows stand in a store lent beside it, table after table.
 pub struct Database {

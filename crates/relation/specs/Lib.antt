@@ -1,4 +1,5 @@
 pub mod Rows
 pub mod Columnwise
+pub mod Rowwise
 pub mod Operators
 pub mod Registers

@@ -43,15 +43,26 @@ pub fn without_column(cols: Columns, c: usize) -> Columns
     less
 }
 
+// Whether a column is in either set.
+fn in_either(a: Columns, b: Columns, c: usize) -> bool
+    ensures { λ r. ⌜ r ≡ both (colsOf columns a) (colsOf columns b) c ⌝ }
+{
+    if has_column(a, c) {
+        true
+    } else {
+        has_column(b, c)
+    }
+}
+
 // The columns of either set.
 pub fn both(a: Columns, b: Columns) -> Columns
     ensures { λ r. ⌜ r ≡ columnsOf columns (both (colsOf columns a) (colsOf columns b)) ⌝ }
 {
-    let mut joined = b;
+    let mut joined = Columns {
+        has: [false; COLUMNS],
+    };
     for c in 0..COLUMNS {
-        if a.has[c] {
-            joined.has[c] = true;
-        }
+        joined.has[c] = in_either(a, b, c);
     }
     joined
 }
