@@ -2,8 +2,8 @@ pub mod Tests
 pub mod Lists
 pub mod RowLists
 pub mod Options
-pub mod Indexed
 pub mod TextLists
 pub mod Faults
-pub mod PlanLists
 pub mod Passes
+pub mod Indexed
+pub mod PlanLists

@@ -1,15 +1,16 @@
 -- Loops over a list: an array filled from its start, faults gathered from its start, and a search to its end.
 use mathlib.Core.Path.{_≡_, refl, ap, sym, _∙_}
 use mathlib.Core.Bool.{Bool, true, false, _||_, _&&_}
-use mathlib.Core.List.{List, [], _∷_, _++_, append-assoc, append-nil}
+use mathlib.Core.List.{List, [], _∷_, _++_, map, append-assoc, append-nil, map-append}
 use Prim.Native.Nat.{ℕ, zero, suc, _+_, _-_, _≤_, _<_}
 use native.Mathlib.Omega.{arith}
 use native.Mathlib.Numerals.{add-one}
 use native.Mathlib.Nat.{not-suc-le-zero}
 use native.Mathlib.Decide.{decLt}
-use lib.ListN.{length, getD, set, take, drop, replicate, length-append, length-replicate, getD-replicate, List·getD-append, List·getD-eq-default}
-use lib.Seq.{set-at, getD-append-add, take-suc, split-at}
-use Rattle.laws.specs.Lists.{every, any}
+use lib.ListN.{length, getD, set, take, drop, replicate, length-append, length-map, length-replicate, getD-replicate, List·getD-append, List·getD-map, List·getD-eq-default}
+use lib.Seq.{set-at, getD-append-add, take-suc, drop-cons, split-at, length-take-le, getD-take}
+use Rattle.laws.specs.Lists.{if_then_else_, every, any, sift}
+use Rattle.laws.proofs.Tests.{and-true, and-true-left, and-true-right, or-true-left, or-true-right}
 
 -- an array of n entries that has been filled from its start: the rest holds d
 abbrev pub filled : {A : Type 0} → ℕ → A → List A → List A
@@ -96,3 +97,78 @@ module _ {A : Type 0} (p : A → Bool) where
       by-test : (b : Bool) → every p (l ++ m) ≡ every p l && every p m → b && every p (l ++ m) ≡ (b && every p l) && every p m
       by-test true e = e
       by-test false e = refl
+
+  -- every element of both parts passes
+  pub every-split : (l m : List A) → every p (l ++ m) ≡ true → (every p l ≡ true) × (every p m ≡ true)
+  every-split l m e =
+      let f = sym (every-append l m) ∙ e in (and-true-left (every p l) (every p m) f, and-true-right (every p l) (every p m) f)
+
+  pub every-sift : (q : A → Bool) (l : List A) → every p l ≡ true → every p (sift q l) ≡ true
+  unfolding every sift
+  every-sift q [] e = refl
+  every-sift q (a ∷ l) e = by-test (q a) (every-sift q l (and-true-right (p a) (every p l) e))
+    where
+      by-test : (b : Bool) → every p (sift q l) ≡ true → every p (if b then a ∷ sift q l else sift q l) ≡ true
+      by-test true f = rw (and-true-left (p a) (every p l) e) f
+      by-test false f = f
+
+  module _ (d : A) where
+    pub every-at : (l : List A) → ((i : ℕ) → i < length l → p (getD l i d) ≡ true) → every p l ≡ true
+    unfolding every
+    every-at [] h = refl
+    every-at (a ∷ l) h = and-true (p a) (every p l) (h 0 (omega arith)) (every-at l (λ i k. h (suc i) (omega arith)))
+
+    -- one element more of a search from the start
+    pub any-more : (l : List A) (i : ℕ) → i < length l → any p (take (i + 1) l) ≡ any p (take i l) || p (getD l i d)
+    unfolding any
+    any-more l i h =
+        ap (λ (k : ℕ). any p (take k l)) (add-one i) ∙ ap (any p) (take-suc l i d h) ∙ any-append (take i l) (getD l i d ∷ [])
+        ∙ ap (λ (b : Bool). any p (take i l) || b) (last (p (getD l i d)))
+      where
+        last : (b : Bool) → b || false ≡ b
+        last true = refl
+        last false = refl
+
+    pub any-found : (l : List A) (i : ℕ) → i < length l → p (getD l i d) ≡ true → any p l ≡ true
+    unfolding any
+    any-found [] i h e = absurd (not-suc-le-zero h)
+    any-found (a ∷ l) zero h e = or-true-left (p a) (any p l) e
+    any-found (a ∷ l) (suc i) h e = or-true-right (p a) (any p l) (any-found l i (omega arith) e)
+
+    -- of a search to the end
+    pub any-rest : (l : List A) (i : ℕ) → i < length l → any p (drop i l) ≡ p (getD l i d) || any p (drop (i + 1) l)
+    unfolding any
+    any-rest l i h = ap (any p) (drop-cons l i d h) ∙ ap (λ (k : ℕ). p (getD l i d) || any p (drop k l)) (sym (add-one i))
+
+pub take-map : {A B : Type 0} (f : A → B) (i : ℕ) (l : List A) → take i (map f l) ≡ map f (take i l)
+take-map f zero l = refl
+take-map f (suc i) [] = refl
+take-map f (suc i) (a ∷ l) = ap (λ (r : List _). f a ∷ r) (take-map f i l)
+
+-- within the list the default is not read
+pub getD-any : {A : Type 0} (l : List A) (j : ℕ) (d e : A) → j < length l → getD l j d ≡ getD l j e
+getD-any [] j d e h = absurd (not-suc-le-zero h)
+getD-any (a ∷ l) zero d e h = refl
+getD-any (a ∷ l) (suc j) d e h = getD-any l j d e (omega arith)
+
+-- an array that has been filled with what the first i elements of a list give
+module _ {A B : Type 0} (n : ℕ) (d : B) (f : A → B) (l : List A) (i : ℕ) where
+  abbrev pub filledTo : List B
+  filledTo = filled n d (map f (take i l))
+
+  pub filledTo-length : i ≤ length l → length (map f (take i l)) ≡ i
+  filledTo-length h = length-map (take i l) f ∙ length-take-le i l h
+
+  -- what is read below i, whatever the default
+  pub filledTo-at : (x : A) (e : B) (j : ℕ) → j < i → i ≤ length l → getD filledTo j e ≡ f (getD l j x)
+  filledTo-at x e j h k =
+      let s = filledTo-length k in
+      List·getD-append (map f (take i l)) (replicate (n - length (map f (take i l))) d) e j (omega arith)
+      ∙ getD-any (map f (take i l)) j e (f x) (omega arith) ∙ List·getD-map f (take i l) j x ∙ ap f (getD-take i l j x h)
+
+  -- the next entry is stored
+  pub filledTo-more : (x : A) (v : B) → i < length l → i < n → v ≡ f (getD l i x) → set filledTo i v ≡ filled n d (map f (take (i + 1) l))
+  filledTo-more x v h k e =
+      filled-more n d (map f (take i l)) v i (filledTo-length (omega arith)) k
+      ∙ ap (filled n d)
+      (ap (λ (w : B). map f (take i l) ++ (w ∷ [])) e ∙ sym (map-append f (take i l) (getD l i x ∷ [])) ∙ ap (map f) (sym (take-suc l i x h) ∙ ap (λ (k : ℕ). take k l) (sym (add-one i))))

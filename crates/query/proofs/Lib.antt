@@ -8,6 +8,18 @@ pub mod SecondPass
 pub mod Formed
 pub mod Complete
 pub mod CheckedIff
+pub mod Starts
+pub mod Lengths
+pub mod FormNodes
+pub mod Visits
+pub mod Operands
+pub mod Walks
+pub mod Contexts
+pub mod ShapedNodes
+pub mod VariableSets
+pub mod FreeNodes
+pub mod ScopeNodes
+pub mod PassLoops
 pub mod InOrder
 pub mod FaultRuns
 pub mod FaultOrder
@@ -20,6 +32,3 @@ pub mod Parts
 pub mod PartsFine
 pub mod SwapRead
 pub mod Replaced
-pub mod Starts
-pub mod Lengths
-pub mod FormNodes

@@ -1,6 +1,6 @@
 -- The shape of a query: the line and the first line of each node, found from the lines alone.
 use mathlib.Core.Path.{_≡_}
-use mathlib.Core.Bool.{true}
+use mathlib.Core.Bool.{Bool, true, false}
 use mathlib.Core.Option.{some, none}
 use mathlib.Core.List.{List, [], _∷_, _++_}
 use Prim.Native.Nat.{ℕ, _+_, _-_, _≤_, _<_}
@@ -43,6 +43,17 @@ arity (Filter f) = 1
 arity (Copy c d) = 1
 arity (Drop c) = 1
 arity (Fix v) = 2
+
+-- a line fix=v
+abbrev pub isFix : ℕ → Node → Bool
+isFix v (Table t) = false
+isFix v (Var u) = false
+isFix v (Fact c x) = false
+isFix v (Pair o) = false
+isFix v (Filter f) = false
+isFix v (Copy c d) = false
+isFix v (Drop c) = false
+isFix v (Fix u) = eqb v u
 
 -- where the nodes of a term start, in node order: the index of each one's first line. n: the lines before the term's own
 unfoldable pub starts : ℕ → Term → List ℕ

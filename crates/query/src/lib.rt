@@ -7,6 +7,8 @@ use relation::Columns;
 pub mod forms; // forms.rt: the form of a query as a value (2, 1)
 mod nodes; // nodes.rt: the line at an index and its operands
 mod shape; // shape.rt: where nodes start (3)
+mod free; // free.rt: the free variables of each node
+mod first_pass; // first_pass.rt: 4 to 8
 
 // "node count … 1–128"
 pub const NODES: usize = 128;

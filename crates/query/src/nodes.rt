@@ -34,7 +34,7 @@ pub fn operands(node: Node) -> usize
 }
 
 // The index before, and 0 before the first.
-pub fn before(i: usize) -> usize
+pub fn preceding(i: usize) -> usize
     ensures { λ r. ⌜ r ≡ i - 1 ⌝ }
 {
     if i == 0 { 0 } else { i - 1 }
