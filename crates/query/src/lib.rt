@@ -10,6 +10,9 @@ mod shape; // shape.rt: where nodes start (3)
 mod free; // free.rt: the free variables of each node
 mod first_pass; // first_pass.rt: 4 to 8
 
+pub use free::none_in;
+pub use nodes::preceding;
+
 // "node count … 1–128"
 pub const NODES: usize = 128;
 
