@@ -5,3 +5,5 @@ pub mod Options
 pub mod TextLists
 pub mod Faults
 pub mod PlanLists
+pub mod Passes
+pub mod Indexed

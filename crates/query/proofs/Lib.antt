@@ -20,3 +20,5 @@ pub mod Parts
 pub mod PartsFine
 pub mod SwapRead
 pub mod Replaced
+pub mod Starts
+pub mod Lengths

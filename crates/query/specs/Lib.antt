@@ -1,3 +1,4 @@
 pub mod Lines
 pub mod Check
 pub mod Facts
+pub mod Shape

@@ -4,6 +4,9 @@ use algebra::Pairing;
 use database::Verdict;
 use relation::Columns;
 
+mod nodes; // nodes.rt: the line at an index, its operands, its form
+mod shape; // shape.rt: where nodes start (3)
+
 // "node count … 1–128"
 pub const NODES: usize = 128;
 
@@ -48,4 +51,16 @@ pub struct Facts {
 pub struct CheckedQuery {
     pub verdict: Verdict,
     pub facts: Facts,
+}
+
+// Where a line's node starts, by the nodes before it, or that an operand is missing.
+enum Begin {
+    At(usize),
+    Missing,
+}
+
+// What the shape of a query replies: the starts of its nodes, in node order; zeros beside a refusal.
+struct CheckedShape {
+    pub verdict: Verdict,
+    pub start: [usize; NODES],
 }

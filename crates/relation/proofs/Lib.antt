@@ -11,3 +11,4 @@ pub mod Gather
 pub mod Kept
 pub mod Operators
 pub mod ColumnsRound
+pub mod CodeRows

@@ -1,0 +1,53 @@
+// The nodes of a query: the line at an index, its operands, its form.
+use super::NODES;
+use super::Node;
+use super::Query;
+use algebra::Condition;
+use database::Refusal;
+use database::TABLES;
+use database::Verdict;
+use relation::COLUMNS;
+ghost use mathlib.Core.Path.{_≡_};
+ghost use mathlib.Core.Bool.{true};
+ghost use Prim.Native.Nat.{ℕ, _+_, _-_, _≤_, _<_, min};
+ghost use lib.Dec.{ltb};
+ghost use lib.ListN.{getD};
+ghost use Rattle.laws.specs.Lists.{every};
+ghost use Rattle.algebra.specs.Columns.{named};
+ghost use Rattle.relation.specs.Rows.{columns};
+ghost use Rattle.database.specs.Refusals.{verdict};
+ghost use Rattle.query.specs.Lines.{nodeLimit, nodes, onForm, checkForm};
+ghost use Rattle.query.specs.Shape.{arity};
+
+// The node of an index; those past the count mean nothing.
+pub fn node_at(query: Query, i: usize) -> Node
+    requires { ⌜ (i < query .count) × (query .count ≤ nodeLimit) ⌝ }
+    ensures { λ r. ⌜ r ≡ getD (nodes query) i (Node.Table 0) ⌝ }
+{
+    let line = query.lines[i];
+    let node = line.node;
+    node
+}
+
+// How many operands a line takes.
+pub fn operands(node: Node) -> usize
+    ensures { λ r. ⌜ r ≡ arity node ⌝ }
+{
+    match node {
+        Node::Table(_) => 0,
+        Node::Var(_) => 0,
+        Node::Fact(_, _) => 0,
+        Node::Pair(_) => 2,
+        Node::Filter(_) => 1,
+        Node::Copy(_, _) => 1,
+        Node::Drop(_) => 1,
+        Node::Fix(_) => 2,
+    }
+}
+
+// The index before, and 0 before the first.
+pub fn before(i: usize) -> usize
+    ensures { λ r. ⌜ r ≡ i - 1 ⌝ }
+{
+    if i == 0 { 0 } else { i - 1 }
+}
