@@ -22,3 +22,8 @@ pub mod SwapRead
 pub mod Replaced
 pub mod Starts
 pub mod Lengths
+pub mod FormNodes
+pub mod Visits
+pub mod Operands
+pub mod Walks
+pub mod Contexts

@@ -46,10 +46,10 @@ starts-last n (copy c d a) = (starts n a, refl)
 starts-last n (dropped c a) = (starts n a, refl)
 starts-last n (fix v a b) = (starts n a ++ starts (n + size a) b, sym (append-assoc (starts n a) (starts (n + size a) b) (n ∷ [])))
 
-one-length : {A : Type 0} (l : List A) (x : A) {k : ℕ} → length l ≡ k → length (l ++ (x ∷ [])) ≡ k + 1
+pub one-length : {A : Type 0} (l : List A) (x : A) {k : ℕ} → length l ≡ k → length (l ++ (x ∷ [])) ≡ k + 1
 one-length l x e = length-append l (x ∷ []) ∙ ap (λ (k : ℕ). k + 1) e
 
-two-length : {A : Type 0} (l m : List A) (x : A) {j k : ℕ} → length l ≡ j → length m ≡ k → length (l ++ (m ++ (x ∷ []))) ≡ j + k + 1
+pub two-length : {A : Type 0} (l m : List A) (x : A) {j k : ℕ} → length l ≡ j → length m ≡ k → length (l ++ (m ++ (x ∷ []))) ≡ j + k + 1
 two-length l m x e f = omega (arith, length-append l (m ++ (x ∷ [])), length-append m (x ∷ []), e, f)
 
 pub starts-length : (n : ℕ) (t : Term) → length (starts n t) ≡ size t

@@ -2,3 +2,4 @@ pub mod Lines
 pub mod Check
 pub mod Facts
 pub mod Shape
+pub mod Passes

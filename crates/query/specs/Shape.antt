@@ -1,14 +1,16 @@
 -- The shape of a query: the line and the first line of each node, found from the lines alone.
 use mathlib.Core.Path.{_≡_}
-use mathlib.Core.Bool.{true}
+use mathlib.Core.Bool.{Bool, true, false}
+use mathlib.Core.Option.{some, none}
 use mathlib.Core.List.{List, [], _∷_, _++_}
 use Prim.Native.Nat.{ℕ, _+_, _-_, _≤_, _<_}
 use lib.Dec.{eqb}
 use lib.ListN.{getD}
-use Rattle.laws.specs.Lists.{if_then_else_}
+use Rattle.laws.specs.Lists.{if_then_else_, lowest}
 use Rattle.algebra.specs.Term.{Term, table, var, fact, pair, filter, copy, drop, fix}
 use Rattle.algebra.specs.Columns.{size}
 use Rattle.relation.specs.Rows.{columns}
+use Rattle.database.specs.declared.Refusal.the-variants.{QueryForm}
 use Rattle.database.specs.declared.Verdict.the-variants.{Accepted, Refused}
 use Rattle.database.specs.Refusals.{Reply, refused, accepted}
 use Rattle.query.specs.declared.Node.{Node}
@@ -41,6 +43,17 @@ arity (Filter f) = 1
 arity (Copy c d) = 1
 arity (Drop c) = 1
 arity (Fix v) = 2
+
+-- a line fix=v
+abbrev pub isFix : ℕ → Node → Bool
+isFix v (Table t) = false
+isFix v (Var u) = false
+isFix v (Fact c x) = false
+isFix v (Pair o) = false
+isFix v (Filter f) = false
+isFix v (Copy c d) = false
+isFix v (Drop c) = false
+isFix v (Fix u) = eqb v u
 
 -- where the nodes of a term start, in node order: the index of each one's first line. n: the lines before the term's own
 unfoldable pub starts : ℕ → Term → List ℕ
@@ -80,3 +93,7 @@ pub record Shaped (q : Query) (start : List ℕ) : Type 0 where
 -- each line is on the form
 abbrev pub Formed : Query → Type 0
 Formed q = (i : ℕ) → i < q .count → onForm columns (getD (nodes q) i (Table 0)) ≡ true
+
+-- 1 with the lowest node off the form, the node count being in its range
+unfoldable pub checkNodes : ℕ → Query → Reply (Unit {0})
+checkNodes w q = elim (lowest (λ i. onForm w (getD (nodes q) i (Table 0))) (q .count)) [ none ↦ accepted tt | some i ↦ refused (QueryForm (i + 1)) ]

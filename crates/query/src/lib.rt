@@ -4,7 +4,8 @@ use algebra::Pairing;
 use database::Verdict;
 use relation::Columns;
 
-mod nodes; // nodes.rt: the line at an index, its operands, its form
+pub mod forms; // forms.rt: the form of a query as a value (2, 1)
+mod nodes; // nodes.rt: the line at an index and its operands
 mod shape; // shape.rt: where nodes start (3)
 
 // "node count … 1–128"

@@ -1,22 +1,10 @@
-// The nodes of a query: the line at an index, its operands, its form.
-use super::NODES;
+// The nodes of a query: the line at an index, and its operands.
 use super::Node;
 use super::Query;
-use algebra::Condition;
-use database::Refusal;
-use database::TABLES;
-use database::Verdict;
-use relation::COLUMNS;
 ghost use mathlib.Core.Path.{_≡_};
-ghost use mathlib.Core.Bool.{true};
-ghost use Prim.Native.Nat.{ℕ, _+_, _-_, _≤_, _<_, min};
-ghost use lib.Dec.{ltb};
+ghost use Prim.Native.Nat.{_-_, _≤_, _<_};
 ghost use lib.ListN.{getD};
-ghost use Rattle.laws.specs.Lists.{every};
-ghost use Rattle.algebra.specs.Columns.{named};
-ghost use Rattle.relation.specs.Rows.{columns};
-ghost use Rattle.database.specs.Refusals.{verdict};
-ghost use Rattle.query.specs.Lines.{nodeLimit, nodes, onForm, checkForm};
+ghost use Rattle.query.specs.Lines.{nodeLimit, nodes};
 ghost use Rattle.query.specs.Shape.{arity};
 
 // The node of an index; those past the count mean nothing.
