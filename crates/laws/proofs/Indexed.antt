@@ -42,36 +42,23 @@ pub part-tabulate : {A : Type 0} (d : A) (n at : ℕ) (l : List A) → at + n �
 part-tabulate d n at l h = is-tabulate d _ n (take n (drop at l)) (length-take-le n (drop at l) (omega (arith, length-drop at l))) λ c k.
     getD-take n (drop at l) c d k ∙ getD-drop at l c d
 
--- l is base with its first i entries written as f says
-pub record Written {A : Type 0} (d : A) (f : ℕ → A) (base l : List A) (i : ℕ) : Type 0 where
-  pub size : length l ≡ length base
+-- a list of n entries, of which the first i are written as f says
+pub record Written {A : Type 0} (d : A) (f : ℕ → A) (n : ℕ) (l : List A) (i : ℕ) : Type 0 where
+  pub size : length l ≡ n
   pub done : (c : ℕ) → c < i → getD l c d ≡ f c
-  pub rest : (c : ℕ) → i ≤ c → getD l c d ≡ getD base c d
 
-module _ {A : Type 0} {d : A} {f : ℕ → A} where
-  pub written-none : (l : List A) → Written d f l l 0
-  written-none l = record { size = refl; done = λ c h. absurd (not-suc-le-zero h); rest = λ c h. refl }
+module _ {A : Type 0} {d : A} {f : ℕ → A} {n : ℕ} {l : List A} where
+  pub written-none : length l ≡ n → Written d f n l 0
+  written-none s = record { size = s; done = λ c h. absurd (not-suc-le-zero h) }
 
-  -- an entry that holds its value already
-  pub written-same : {base l : List A} (i : ℕ) → Written d f base l i → getD base i d ≡ f i → Written d f base l (i + 1)
-  written-same {base} {l} i w e = record {
-    size = w .size;
-    done = λ c h. elim (same? c i) [
-      | inl s ↦ w .rest c (let q = s .0 in omega arith) ∙ ap (λ (k : ℕ). getD base k d) (s .0) ∙ e ∙ ap f (sym (s .0))
-      | inr s ↦ w .done c (let q = s .0 in omega arith)
-    ];
-    rest = λ c h. w .rest c (omega arith);
-  }
-
-  pub written-more : {base l : List A} (i : ℕ) (v : A) → Written d f base l i → i < length base → v ≡ f i → Written d f base (set l i v) (i + 1)
-  written-more {base} {l} i v w h e = record {
+  pub written-more : (i : ℕ) (v : A) → Written d f n l i → i < n → v ≡ f i → Written d f n (set l i v) (i + 1)
+  written-more i v w h e = record {
     size = length-set l i v ∙ w .size;
     done = λ c k. elim (same? c i) [
-      | inl s ↦ ap (λ (k : ℕ). getD (set l i v) k d) (s .0) ∙ getD-set-same l i v d (let n = w .size in omega arith) ∙ e ∙ ap f (sym (s .0))
+      | inl s ↦ ap (λ (k : ℕ). getD (set l i v) k d) (s .0) ∙ getD-set-same l i v d (let q = w .size in omega arith) ∙ e ∙ ap f (sym (s .0))
       | inr s ↦ getD-set-other l i c v d (s .0) ∙ w .done c (let q = s .0 in omega arith)
     ];
-    rest = λ c k. getD-set-other l i c v d (λ q. let z : ⊥ = omega arith in z) ∙ w .rest c (omega arith);
   }
 
-  pub written-all : {base l : List A} (n : ℕ) → Written d f base l n → length base ≡ n → l ≡ tabulate f n
-  written-all {l = l} n w s = is-tabulate d f n l (w .size ∙ s) (w .done)
+  pub written-all : Written d f n l n → l ≡ tabulate f n
+  written-all w = is-tabulate d f n l (w .size) (w .done)

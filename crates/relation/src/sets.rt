@@ -3,9 +3,10 @@ use super::COLUMNS;
 use super::Columns;
 ghost use mathlib.Core.Path.{_≡_};
 ghost use mathlib.Core.Bool.{not};
-ghost use Rattle.laws.specs.Lists.{all, _==_};
+ghost use Rattle.laws.specs.Lists.{all};
 ghost use Rattle.algebra.specs.Columns.{noCols, with, without, both};
 ghost use Rattle.relation.specs.Rows.{columns, colsOf, columnsOf};
+ghost use Rattle.relation.specs.Columnwise.{sameAt};
 
 // Whether a column is in the set; none past the last is.
 pub fn has_column(cols: Columns, c: usize) -> bool
@@ -42,29 +43,36 @@ pub fn without_column(cols: Columns, c: usize) -> Columns
     less
 }
 
+// Whether a column is in either set.
+fn in_either(a: Columns, b: Columns, c: usize) -> bool
+    ensures { λ r. ⌜ r ≡ both (colsOf columns a) (colsOf columns b) c ⌝ }
+{
+    if has_column(a, c) { true } else { has_column(b, c) }
+}
+
 // The columns of either set.
 pub fn both(a: Columns, b: Columns) -> Columns
     ensures { λ r. ⌜ r ≡ columnsOf columns (both (colsOf columns a) (colsOf columns b)) ⌝ }
 {
-    let mut joined = b;
+    let mut joined = Columns {
+        has: [false; COLUMNS],
+    };
     for c in 0..COLUMNS {
-        if a.has[c] {
-            joined.has[c] = true;
-        }
+        joined.has[c] = in_either(a, b, c);
     }
     joined
 }
 
 // Whether both sets have a column or neither has.
 fn same_at(a: Columns, b: Columns, c: usize) -> bool
-    ensures { λ r. ⌜ r ≡ (colsOf columns a c == colsOf columns b c) ⌝ }
+    ensures { λ r. ⌜ r ≡ sameAt (colsOf columns a) (colsOf columns b) c ⌝ }
 {
     let right = has_column(b, c);
     if has_column(a, c) { right } else { !right }
 }
 
 pub fn same_columns(a: Columns, b: Columns) -> bool
-    ensures { λ r. ⌜ r ≡ all (λ c. colsOf columns a c == colsOf columns b c) columns ⌝ }
+    ensures { λ r. ⌜ r ≡ all (sameAt (colsOf columns a) (colsOf columns b)) columns ⌝ }
 {
     for c in 0..COLUMNS {
         if !same_at(a, b, c) {

@@ -5,15 +5,16 @@ use native.Mathlib.Omega.{arith}
 use Prim.Native.Nat.{ℕ, _≤_, _-_}
 use mathlib.Core.Path.{_≡_, sym, _∙_}
 use mathlib.Core.Bool.{Bool, true}
-use Rattle.laws.specs.Lists.{all, _==_}
+use Rattle.laws.specs.Lists.{all}
 use Rattle.laws.proofs.Indexed.{all-none, all-more, all-fails}
 use Rattle.relation.specs.declared.Columns.{Columns}
 use Rattle.relation.specs.Rows.{columns, colsOf}
+use Rattle.relation.specs.Columnwise.{sameAt}
 use Rattle.relation.proofs.sets.same_columns.Statement.{statement}
 use Rattle.relation.proofs.sets.same_columns.Tie as tie
 
 abbrev test : Columns → Columns → ℕ → Bool
-test a b c = colsOf columns a c == colsOf columns b c
+test a b = sameAt (colsOf columns a) (colsOf columns b)
 
 abbrev Inv-loop : tie.InvT-loop
 Inv-loop a b c₀ c = (c ≤ columns) × (all (test a b) c ≡ true)
