@@ -44,12 +44,12 @@ module _ (G : Schema) (vs before after : List Visit) (i n : ℕ) (begins : n ≡
       let whole : vs ≡ before ++ (k ++ (l ++ (x ∷ after))) = e ∙ simp append-assoc in
       let halves : vs ≡ (before ++ k) ++ (l ++ (x ∷ after)) = whole ∙ sym (append-assoc before k (l ++ (x ∷ after))) in
       let last : lastOf vs i ≡ visit (n + size a) b D w =
-      ap (λ (m : List Visit). getD m (i - 1) noVisit) halves
-      ∙ last-at G (before ++ k) D w (n + size a) b (x ∷ after) (i - 1)
-      (let p = size-pos b in let q = visits-length G C v n a in let r = length-append before k in omega arith) in
+          ap (λ (m : List Visit). getD m (i - 1) noVisit) halves
+          ∙ last-at G (before ++ k) D w (n + size a) b (x ∷ after) (i - 1)
+          (let p = size-pos b in let q = visits-length G C v n a in let r = length-append before k in omega arith) in
       let first : getD vs (n + size a - 1) noVisit ≡ visit n a C v =
-      ap (λ (m : List Visit). getD m (n + size a - 1) noVisit) whole
-      ∙ last-at G before C v n a (l ++ (x ∷ after)) (n + size a - 1) (let p = size-pos a in omega arith) in
+          ap (λ (m : List Visit). getD m (n + size a - 1) noVisit) whole
+          ∙ last-at G before C v n a (l ++ (x ∷ after)) (n + size a - 1) (let p = size-pos a in omega arith) in
       (last, ap (λ (y : Visit). getD vs (y .start - 1) noVisit) last ∙ first)
 
   under : (C : Cols) (v : List ℕ) (t : Term) → vs ≡ before ++ (visits G C v n t ++ after) → length before + size t ≡ i + 1 → Under G vs i n C v t

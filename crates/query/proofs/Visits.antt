@@ -83,7 +83,7 @@ module _ (G : Schema) where
       let (r, s) = visits-last C v n t in
       let x = visit n t C v in
       let whole : p ++ (visits G C v n t ++ q) ≡ (p ++ r) ++ (x ∷ q) =
-      ap (λ (l : List Visit). p ++ (l ++ q)) s ∙ ap (λ (l : List Visit). p ++ l) (append-assoc r (x ∷ []) q) ∙ sym (append-assoc p r (x ∷ q)) in
+          ap (λ (l : List Visit). p ++ (l ++ q)) s ∙ ap (λ (l : List Visit). p ++ l) (append-assoc r (x ∷ []) q) ∙ sym (append-assoc p r (x ∷ q)) in
       ap (λ (l : List Visit). getD l i noVisit) whole
       ∙ getD-at (p ++ r) x q noVisit i
       (omega (arith, length-append p r, length-append r (x ∷ []), ap length s, visits-length C v n t, e))

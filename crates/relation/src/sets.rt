@@ -47,11 +47,7 @@ pub fn without_column(cols: Columns, c: usize) -> Columns
 fn in_either(a: Columns, b: Columns, c: usize) -> bool
     ensures { λ r. ⌜ r ≡ both (colsOf columns a) (colsOf columns b) c ⌝ }
 {
-    if has_column(a, c) {
-        true
-    } else {
-        has_column(b, c)
-    }
+    if has_column(a, c) { true } else { has_column(b, c) }
 }
 
 // The columns of either set.
