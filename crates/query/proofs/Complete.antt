@@ -22,7 +22,7 @@ use Rattle.query.proofs.Distinct.{Apart, apart-left, apart-one}
 use Rattle.query.proofs.FirstPass.{unless-none, pair-clear, fix-clear}
 use Rattle.query.proofs.SecondPass.{same-cols, same-sides, pair-columns, fix-columns}
 
-path-member : {G : Schema} {v : ℕ} {C : Cols} {t : Term} → Path G v C t → member v (free t) ≡ true
+pub path-member : {G : Schema} {v : ℕ} {C : Cols} {t : Term} → Path G v C t → member v (free t) ≡ true
 unfolding free
 path-member (p-var {v = v}) = member-head v []
 path-member {v = v} (p-union {a = a} {b = b} p q _) = member-append v (free a) (free b) ∙ or-true-left _ _ (path-member p)

@@ -7,3 +7,7 @@ pub mod NodeParts
 pub mod RewriteExact
 pub mod Held
 pub mod RuleSheet
+pub mod GrownColumns
+pub mod Gathered
+pub mod OnPath
+pub mod AlongPath

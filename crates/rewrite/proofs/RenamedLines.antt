@@ -23,17 +23,17 @@ map-append f [] m = refl
 map-append f (a ∷ l) m = ap (λ (r : List _). f a ∷ r) (map-append f l m)
 
 -- a number that stands in neither part
-absent-left : (u : ℕ) (l m : List ℕ) → member u (l ++ m) ≡ false → member u l ≡ false
+pub absent-left : (u : ℕ) (l m : List ℕ) → member u (l ++ m) ≡ false → member u l ≡ false
 unfolding any
 absent-left u [] m e = refl
 absent-left u (a ∷ l) m e = rw (or-false-left (eqb u a) (member u (l ++ m)) e) (absent-left u l m (or-false-right (eqb u a) (member u (l ++ m)) e))
 
-absent-right : (u : ℕ) (l m : List ℕ) → member u (l ++ m) ≡ false → member u m ≡ false
+pub absent-right : (u : ℕ) (l m : List ℕ) → member u (l ++ m) ≡ false → member u m ≡ false
 unfolding any
 absent-right u [] m e = e
 absent-right u (a ∷ l) m e = absent-right u l m (or-false-right (eqb u a) (member u (l ++ m)) e)
 
-absent-one : (u w : ℕ) → member u (w ∷ []) ≡ false → w ≢ u
+pub absent-one : (u w : ℕ) → member u (w ∷ []) ≡ false → w ≢ u
 unfolding any
 absent-one u w e p = true-false (sym (eqb-self u) ∙ ap (eqb u) (sym p) ∙ or-false-left (eqb u w) false e)
 

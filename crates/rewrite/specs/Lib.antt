@@ -1,2 +1,4 @@
 pub mod Rewrite
 pub mod Patterns
+pub mod Places
+pub mod Path

@@ -1,9 +1,19 @@
 // Rewriting a query by one of document 01's six kinds.
 use database::Verdict;
 use query::Query;
+use relation::Columns;
+
+mod nodes; // nodes.rt: the line of a node and what the check tells of it
+mod path; // path.rt: the columns along the path of a fix
 
 // What a rewrite hands back: the rule's query, or the query as given beside the refusal.
 pub struct Rewritten {
     pub query: Query,
     pub verdict: Verdict,
+}
+
+// Of the path of a fix: the columns that a drop on it names, and those that it uses.
+struct PathColumns {
+    pub dropped: Columns,
+    pub used: Columns,
 }
