@@ -4,3 +4,4 @@ pub mod RowLists
 pub mod Options
 pub mod TextLists
 pub mod Faults
+pub mod Stretches

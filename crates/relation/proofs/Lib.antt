@@ -11,3 +11,6 @@ pub mod Gather
 pub mod Kept
 pub mod Operators
 pub mod ColumnsRound
+pub mod RowParts
+pub mod Encoded
+pub mod Rank

@@ -1,3 +1,4 @@
 pub mod Rows
 pub mod Operators
 pub mod Registers
+pub mod Held
