@@ -5,3 +5,4 @@ pub mod Options
 pub mod TextLists
 pub mod Faults
 pub mod Stretches
+pub mod Indexed

@@ -14,3 +14,4 @@ pub mod ColumnsRound
 pub mod RowParts
 pub mod Encoded
 pub mod Rank
+pub mod CodeRows
