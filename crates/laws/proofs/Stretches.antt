@@ -6,7 +6,7 @@ use native.Mathlib.Omega.{arith}
 use native.Mathlib.Numerals.{add-one}
 use native.Mathlib.Nat.{not-suc-le-zero, le-of-suc-le-suc, mul-zero, mul-suc}
 use lib.ListN.{length, take, drop, getD, set, replicate, length-append, length-set, length-replicate, replicate-append-replicate, List·getD-append}
-use lib.Seq.{take-nil, take-at, drop-at, take-append-add, drop-append-add, drop-drop, drop-cons, set-split, set-at, set-append-left}
+use lib.Seq.{paste, take-all, take-at, drop-at, take-append-add, drop-append-add, drop-drop, drop-cons, set-split, set-at, set-append-left}
 use borrow.Rule.Slice.PartMut.{midOf, putMid}
 use Rattle.laws.proofs.TextLists.{Each}
 
@@ -81,6 +81,11 @@ module _ {A : Type 0} (p xs : List A) (a k : ℕ) where
   put-behind ys =
       ap₂ (λ u v. u ++ (ys ++ v)) (take-append-add p xs a) (ap (drop k) (drop-append-add p xs a))
       ∙ append-assoc p (take a xs) (ys ++ drop k (drop a xs))
+
+-- a copied part
+pub paste-put : {A : Type 0} (d : List A) (a : ℕ) (s : List A) (n : ℕ) → length s ≡ n → paste d a s n ≡ putMid a n d s
+paste-put d a s n e =
+    ap₂ (λ u v. take a d ++ u ++ v) (take-all n s (omega arith)) (sym (drop-drop n a d)) ∙ append-assoc (take a d) s (drop n (drop a d))
 
 -- a list filled up with z to L elements
 abbrev pub padded : {A : Type 0} → A → ℕ → List A → List A

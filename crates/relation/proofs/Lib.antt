@@ -15,3 +15,4 @@ pub mod RowParts
 pub mod Encoded
 pub mod Rank
 pub mod CodeRows
+pub mod Gets
