@@ -5,8 +5,8 @@ use Prim.Native.Nat.{ℕ, zero, suc, _+_, _-_, _*_, _≤_, _<_}
 use native.Mathlib.Omega.{arith}
 use native.Mathlib.Numerals.{add-one}
 use native.Mathlib.Nat.{not-suc-le-zero, le-of-suc-le-suc, mul-zero, mul-suc}
-use lib.ListN.{length, take, drop, getD, set, replicate, length-append, length-set, length-replicate, replicate-append-replicate, List·getD-append}
-use lib.Seq.{paste, take-all, take-at, drop-at, take-append-add, drop-append-add, drop-drop, drop-cons, set-split, set-at, set-append-left}
+use lib.ListN.{length, take, drop, getD, set, replicate, length-append, length-set, length-drop, length-replicate, replicate-append-replicate, take-append-drop, drop-of-length-le, List·getD-append}
+use lib.Seq.{paste, take-all, take-at, drop-at, take-suc, take-append-add, drop-append-add, drop-drop, drop-cons, drop-length, length-take-le, getD-take, set-split, set-at, set-append-left}
 use borrow.Rule.Slice.PartMut.{midOf, putMid}
 use Rattle.laws.proofs.TextLists.{Each}
 
@@ -116,3 +116,67 @@ module _ {A : Type 0} (z : A) (L : ℕ) (xs : List A) where
       let e : j + (L - length (xs ++ replicate j z)) ≡ L - length xs = omega arith in
       append-assoc xs (replicate j z) (replicate (L - length (xs ++ replicate j z)) z)
       ∙ ap (λ l. xs ++ l) (replicate-append-replicate j (L - length (xs ++ replicate j z)) z ∙ ap (λ n. replicate n z) e)
+
+-- element k in place of the one behind it, downwards from the last: what stands from k on has moved up
+module _ {A : Type 0} (xs : List A) (d : A) where
+  abbrev pub moved : ℕ → ℕ → List A
+  moved last k = take (k + 1) xs ++ drop k (take last xs)
+
+  pub length-moved : (last k : ℕ) → k ≤ last → last < length xs → length (moved last k) ≡ last + 1
+  length-moved last k h l =
+      length-append (take (k + 1) xs) (drop k (take last xs))
+      ∙ omega (arith, length-take-le (k + 1) xs (omega arith), length-drop k (take last xs), length-take-le last xs (omega arith))
+
+  pub moved-none : (last : ℕ) → last < length xs → moved last last ≡ take (last + 1) xs
+  moved-none last h =
+      ap (λ l. take (last + 1) xs ++ l) (drop-of-length-le (take last xs) {i = last} (omega (arith, length-take-le last xs (omega arith))))
+      ∙ append-nil (take (last + 1) xs)
+
+  -- the first elements up to k, and the one at k
+  moved-at : (last k : ℕ) → k < length xs → moved last k ≡ take k xs ++ (getD xs k d ∷ drop k (take last xs))
+  moved-at last k h =
+      ap (λ n. take n xs ++ drop k (take last xs)) (add-one k) ∙ ap (λ l. l ++ drop k (take last xs)) (take-suc xs k d h)
+      ∙ append-assoc (take k xs) (getD xs k d ∷ []) (drop k (take last xs))
+
+  pub moved-set : (last k : ℕ) (x : A) → k < length xs → set (moved last k) k x ≡ take k xs ++ (x ∷ drop k (take last xs))
+  moved-set last k x h =
+      ap (λ l. set l k x) (moved-at last k h) ∙ set-at (take k xs) (getD xs k d) (drop k (take last xs)) x k (length-take-le k xs (omega arith))
+
+  pub moved-turn : (last k : ℕ) → 0 < k → k ≤ last → last < length xs → set (moved last k) k (getD (moved last k) (k - 1) d) ≡ moved last (k - 1)
+  moved-turn last k p h l =
+      let e : k - 1 + 1 ≡ k = omega arith in
+      let i : k - 1 < length (take (k + 1) xs) = omega (arith, length-take-le (k + 1) xs (omega arith)) in
+      let v : getD (moved last k) (k - 1) d ≡ getD (take last xs) (k - 1) d =
+        List·getD-append (take (k + 1) xs) (drop k (take last xs)) d (k - 1) i ∙ getD-take (k + 1) xs (k - 1) d (omega arith)
+        ∙ sym (getD-take last xs (k - 1) d (omega arith)) in
+      moved-set last k _ (omega arith) ∙ ap (λ v. take k xs ++ (v ∷ drop k (take last xs))) v
+      ∙ ap (λ n. take n xs ++ (getD (take last xs) (k - 1) d ∷ drop n (take last xs))) (sym e)
+      ∙ ap (λ n. take (k - 1 + 1) xs ++ (getD (take last xs) (k - 1) d ∷ drop n (take last xs))) (add-one (k - 1))
+      ∙ ap (λ l. take (k - 1 + 1) xs ++ l) (sym (drop-cons (take last xs) (k - 1) d (omega (arith, length-take-le last xs (omega arith)))))
+
+-- the elements from n up to i wiped with z
+module _ {A : Type 0} (z : A) (xs : List A) (n : ℕ) where
+  abbrev pub wiped : ℕ → List A
+  wiped i = take n xs ++ (replicate (i - n) z ++ drop i xs)
+
+  pub length-wiped : (i : ℕ) → n ≤ i → i ≤ length xs → length (wiped i) ≡ length xs
+  length-wiped i h l =
+      length-append (take n xs) (replicate (i - n) z ++ drop i xs) ∙ ap (λ k. length (take n xs) + k) (length-append (replicate (i - n) z) (drop i xs))
+      ∙ omega (arith, length-take-le n xs (omega arith), length-replicate (i - n) z, length-drop i xs)
+
+  pub wiped-none : wiped n ≡ xs
+  wiped-none = let e : n - n ≡ 0 = omega arith in ap (λ k. take n xs ++ (replicate k z ++ drop n xs)) e ∙ take-append-drop n xs
+
+  pub wiped-turn : (i : ℕ) → n ≤ i → i < length xs → set (wiped i) i z ≡ wiped (i + 1)
+  wiped-turn i h l =
+      let front : List A = take n xs ++ replicate (i - n) z in
+      let size : length front ≡ i = length-append (take n xs) (replicate (i - n) z) ∙ omega (arith, length-take-le n xs (omega arith), length-replicate (i - n) z) in
+      let e : i - n + 1 ≡ i + 1 - n = omega arith in
+      ap (λ l. set l i z) (sym (append-assoc (take n xs) (replicate (i - n) z) (drop i xs)) ∙ ap (λ l. front ++ l) (drop-cons xs i z l))
+      ∙ set-at front (getD xs i z) (drop (suc i) xs) z i size
+      ∙ append-assoc (take n xs) (replicate (i - n) z) (z ∷ drop (suc i) xs)
+      ∙ ap (λ l. take n xs ++ l) (sym (append-assoc (replicate (i - n) z) (z ∷ []) (drop (suc i) xs)))
+      ∙ ap₂ (λ l k. take n xs ++ (l ++ drop k xs)) (replicate-append-replicate (i - n) 1 z ∙ ap (λ k. replicate k z) e) (sym (add-one i))
+
+  pub wiped-all : wiped (length xs) ≡ take n xs ++ replicate (length xs - n) z
+  wiped-all = ap (λ l. take n xs ++ (replicate (length xs - n) z ++ l)) (drop-length xs) ∙ ap (λ l. take n xs ++ l) (append-nil (replicate (length xs - n) z))
