@@ -147,8 +147,8 @@ module _ {A : Type 0} (xs : List A) (d : A) where
       let e : k - 1 + 1 ≡ k = omega arith in
       let i : k - 1 < length (take (k + 1) xs) = omega (arith, length-take-le (k + 1) xs (omega arith)) in
       let v : getD (moved last k) (k - 1) d ≡ getD (take last xs) (k - 1) d =
-        List·getD-append (take (k + 1) xs) (drop k (take last xs)) d (k - 1) i ∙ getD-take (k + 1) xs (k - 1) d (omega arith)
-        ∙ sym (getD-take last xs (k - 1) d (omega arith)) in
+      List·getD-append (take (k + 1) xs) (drop k (take last xs)) d (k - 1) i ∙ getD-take (k + 1) xs (k - 1) d (omega arith)
+      ∙ sym (getD-take last xs (k - 1) d (omega arith)) in
       moved-set last k _ (omega arith) ∙ ap (λ v. take k xs ++ (v ∷ drop k (take last xs))) v
       ∙ ap (λ n. take n xs ++ (getD (take last xs) (k - 1) d ∷ drop n (take last xs))) (sym e)
       ∙ ap (λ n. take (k - 1 + 1) xs ++ (getD (take last xs) (k - 1) d ∷ drop n (take last xs))) (add-one (k - 1))
