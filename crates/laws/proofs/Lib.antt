@@ -9,3 +9,4 @@ pub mod Indexed
 pub mod PlanLists
 pub mod Readers
 pub mod Writers
+pub mod Stretches

@@ -11,4 +11,8 @@ pub mod Gather
 pub mod Kept
 pub mod Operators
 pub mod ColumnsRound
+pub mod RowParts
+pub mod Encoded
+pub mod Rank
 pub mod CodeRows
+pub mod Gets

@@ -3,3 +3,4 @@ pub mod Columnwise
 pub mod Rowwise
 pub mod Operators
 pub mod Registers
+pub mod Held
