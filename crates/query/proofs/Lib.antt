@@ -32,3 +32,4 @@ pub mod Parts
 pub mod PartsFine
 pub mod SwapRead
 pub mod Replaced
+pub mod ColumnNodes

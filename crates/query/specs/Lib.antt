@@ -4,3 +4,4 @@ pub mod Facts
 pub mod Shape
 pub mod Passes
 pub mod FreeSets
+pub mod NodeColumns
