@@ -32,4 +32,3 @@ pub mod Parts
 pub mod PartsFine
 pub mod SwapRead
 pub mod Replaced
-pub mod ColumnNodes

@@ -4,4 +4,3 @@ pub mod Facts
 pub mod Shape
 pub mod Passes
 pub mod FreeSets
-pub mod NodeColumns

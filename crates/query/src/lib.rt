@@ -9,7 +9,6 @@ mod nodes; // nodes.rt: the line at an index and its operands
 mod shape; // shape.rt: where nodes start (3)
 mod free; // free.rt: the free variables of each node
 mod first_pass; // first_pass.rt: 4 to 8
-mod node_columns; // node_columns.rt: the columns of each node
 
 pub use free::none_in;
 pub use nodes::preceding;

@@ -41,4 +41,3 @@ pub mod StoredTables
 pub mod ReadTables
 pub mod StoredRoundTrip
 pub mod TextRoundTrip
-pub mod AnswerLines

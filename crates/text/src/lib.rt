@@ -2,9 +2,9 @@
 mod line_reader;
 mod node_reader;
 mod number_reader;
+mod output;
 mod query_reader;
 mod step_reader;
-mod output;
 mod writers;
 
 use database::Database;
@@ -12,7 +12,6 @@ use database::Verdict;
 use query::Query;
 pub use query_reader::read_query;
 pub use step_reader::read_step;
-pub use writers::write_answer;
 pub use writers::write_query;
 pub use writers::write_refusal;
 
