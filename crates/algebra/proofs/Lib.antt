@@ -27,3 +27,4 @@ pub mod Distinct
 pub mod Alike
 pub mod Swap
 pub mod Conditions
+pub mod Sizes

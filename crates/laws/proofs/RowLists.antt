@@ -27,12 +27,6 @@ getD-tabulate f (suc n) c d h = elim (same? c n) [
       List·getD-append (tabulate f n) (f n ∷ []) d c (rw (length-tabulate f n) k) ∙ getD-tabulate f n c d k
 ]
 
--- what holds of each number below n holds below n
-pub below-all : (p : ℕ → Bool) (n : ℕ) → ((c : ℕ) → c < n → p c ≡ true) → all p n ≡ true
-unfolding all
-below-all p zero f = refl
-below-all p (suc n) f = rw (below-all p n (λ c h. f c (omega arith)), f n (omega arith))
-
 -- o is the lowest number below n that fails, if there is one
 abbrev Lowest : (ℕ → Bool) → ℕ → Option ℕ → Type 0
 Lowest p n none = (c : ℕ) → c < n → p c ≡ true

@@ -8,10 +8,10 @@ use Rattle.laws.proofs.Lists.{count}
 use Rattle.laws.proofs.Faults.{append-none}
 use Rattle.algebra.specs.Term.{Term}
 use Rattle.algebra.specs.Columns.{Schema, noCols, fixNumbers}
+use Rattle.algebra.proofs.Distinct.{count-distinct, distinct-count}
 use Rattle.algebra.specs.WellFormed.{WellFormed}
 use Rattle.algebra.proofs.Narrow.{Narrow}
 use Rattle.query.specs.Check.{firstPass, secondPass, faults}
-use Rattle.query.proofs.Distinct.{distinct-apart, apart-distinct}
 use Rattle.query.proofs.FirstPass.{numbers-apart}
 use Rattle.query.proofs.Formed.{formed-closed}
 use Rattle.query.proofs.Complete.{closed-clear, closed-columns}
@@ -23,7 +23,7 @@ checked-iff G t h = (
       let (i, j) = append-none (firstPass t [] [] 0) (secondPass G t noCols 0) .0 e in
       record {
         closed = formed-closed G t h i j;
-        distinct = apart-distinct (fixNumbers t) (numbers-apart t [] [] 0 i (λ n. omega arith));
+        distinct = count-distinct (fixNumbers t) (numbers-apart t [] [] 0 i (λ n. omega arith));
       }),
-  (λ f. append-none _ _ .1 (closed-clear (f .closed) [] .none [] 0 (distinct-apart (fixNumbers t) (f .distinct)), closed-columns (f .closed) noCols 0)),
+  (λ f. append-none _ _ .1 (closed-clear (f .closed) [] .none [] 0 (distinct-count (fixNumbers t) (f .distinct)), closed-columns (f .closed) noCols 0)),
 )

@@ -1,4 +1,4 @@
--- Distinct numbers by counting: no number stands twice exactly if each is counted at most once.
+-- Numbers that are counted at most once, one number more.
 use mathlib.Core.Path.{_≡_}
 use mathlib.Core.Bool.{false}
 use mathlib.Core.List.{List, [], _∷_, _++_}
@@ -8,28 +8,9 @@ use native.Mathlib.Omega.{arith}
 use Rattle.laws.specs.Lists.{member}
 use Rattle.laws.proofs.Tests.{same?}
 use Rattle.laws.proofs.Lists.{count, count-head, count-append, absent-count, count-absent}
-use Rattle.algebra.specs.WellFormed.{Distinct}
 
 abbrev pub Apart : List ℕ → Type 0
 Apart l = (n : ℕ) → count n l ≤ 1
-
-pub distinct-apart : (l : List ℕ) → Distinct l → Apart l
-unfolding count
-distinct-apart [] h n = omega arith
-distinct-apart (a ∷ l) (h, k) n =
-    let i = distinct-apart l k n in
-    elim (same? n a) [
-      | inl s ↦ rw (s .1, s .0) (omega (arith, absent-count a l h))
-      | inr s ↦ rw (s .1) (omega arith)
-    ]
-
-pub apart-distinct : (l : List ℕ) → Apart l → Distinct l
-unfolding count
-apart-distinct [] h = tt
-apart-distinct (a ∷ l) h = (
-  count-absent a l (omega (arith, h a, count-head a l)),
-  apart-distinct l (λ n. omega (arith, h n)),
-)
 
 pub apart-left : (l m : List ℕ) → Apart (l ++ m) → Apart l
 apart-left l m h n = omega (arith, h n, count-append n l m)

@@ -6,6 +6,7 @@ use native.Mathlib.Omega.{arith}
 use lib.ListN.{length, take, drop as dropFirst}
 use Rattle.algebra.specs.Term.{Term}
 use Rattle.algebra.specs.Columns.{Schema, size, fixNumbers}
+use Rattle.algebra.proofs.Distinct.{count-distinct, distinct-count}
 use Rattle.algebra.specs.WellFormed.{WellFormed}
 use Rattle.algebra.proofs.Swap.{Swap}
 use Rattle.database.specs.Refusals.{accepted}
@@ -14,7 +15,6 @@ use Rattle.query.specs.Lines.{lines, read, termOf}
 use Rattle.query.proofs.Reading.{read-lines, read-flat, flat}
 use Rattle.query.proofs.TermLines.{term-read, read-term}
 use Rattle.query.proofs.Prefix.{node-lines, node-before}
-use Rattle.query.proofs.Distinct.{distinct-apart, apart-distinct}
 use Rattle.query.proofs.SwapRead.{Swaps, s-none, s-cons, swaps-refl, Reread, read-swaps}
 
 -- ns: the lines that stand now, t: the term before
@@ -46,10 +46,3 @@ replaced {G} ns t n a b stack h e reads s =
     rw (node-before ns n a stack reads h)
     (one-root (read-swaps (k + size a) rest (s-cons s (swaps-refl stack)) after)
     (read-node stack b rest ∙ ap (λ (m : ℕ). read (k + m) rest (b ∷ stack)) (s .same-size)))
-
--- a term that may be put for a well-formed one is well-formed
-pub swap-well-formed : {G : Schema} {t t′ : Term} → Swap G t t′ → WellFormed G t → WellFormed G t′
-swap-well-formed {t = t} {t′ = t′} s w = record {
-  closed = s .closed (w .closed) .0;
-  distinct = apart-distinct (fixNumbers t′) (λ n. omega (arith, s .numbers n, distinct-apart (fixNumbers t) (w .distinct) n));
-}

@@ -8,10 +8,11 @@ use native.Mathlib.Omega.{arith}
 use lib.ListN.{length, take, drop as dropFirst, getD, length-take, length-map}
 use lib.Seq.{take-at}
 use Rattle.laws.proofs.TextLists.{Each}
-use Rattle.algebra.specs.Term.{Term, table, var, fact, pair, filter, copy, drop, fix}
+use Rattle.algebra.specs.Term.{Term}
 use Rattle.algebra.specs.Columns.{Cols, noCols, Schema, size}
 use Rattle.algebra.specs.WellFormed.{Closed, Path, WellFormed}
 use Rattle.algebra.specs.Rules.{Match, match, written}
+use Rattle.algebra.proofs.Sizes.{size-positive}
 use Rattle.algebra.proofs.Narrow.{Narrow, below-none}
 use Rattle.algebra.proofs.Redex.{redex, matched}
 use Rattle.algebra.proofs.Conditions.{stable-iff, unused-iff, closed-iff}
@@ -53,17 +54,6 @@ lines-back q ns = lines-first ns (dropFirst (length ns) (q .lines))
 
 few-nodes : (q : Query) → length (nodes q) ≤ q .count
 few-nodes q = omega (arith, length-map (take (q .count) (q .lines)) (λ (l : Line). l .node), length-take (q .count) (q .lines))
-
-size-some : (t : Term) → 1 ≤ size t
-unfolding size
-size-some (table t) = omega arith
-size-some (var v) = omega arith
-size-some (fact c x) = omega arith
-size-some (pair o a b) = omega arith
-size-some (filter f a) = omega arith
-size-some (copy c d a) = omega arith
-size-some (drop c a) = omega arith
-size-some (fix v a b) = omega arith
 
 -- an accepted step was given a checked sheet
 checked-first : (w limit : ℕ) (q : Query) (d : Database) (store : List ℕ) (k n : ℕ) (p : Query) → rewrite w limit q d store k n ≡ accepted p
@@ -138,7 +128,7 @@ module _ (w limit : ℕ) (q : Query) (d : Database) (store : List ℕ) (t : Term
       let f = few-nodes q in
       let h = checkedNow .in-range in
       record {
-        in-range = (omega (arith, ap length lines-now, size-lines (now .term), size-some (now .term)), omega arith);
+        in-range = (omega (arith, ap length lines-now, size-lines (now .term), size-positive (now .term)), omega arith);
         on-form = λ i k. subst (λ (l : List Node). onForm w (getD l i (Table 0)) ≡ true) (sym (lines-back q ns)) (form-at form (Table 0) i k);
         written = lines-back q ns ∙ lines-now;
         well-formed = swap-wellformed (now .swap) (checkedNow .well-formed);
