@@ -24,6 +24,9 @@ use Rattle.text.specs.Readings.{before, isWord, numbersBehind}
 abbrev pub restAt : List ℕ → Cursor → Rest
 restAt text c = record { line = c .line; bytes = drop (c .at) text }
 
+abbrev pub cursor : ℕ → ℕ → Cursor
+cursor at line = record { at = at; line = line }
+
 -- each line before has at least one byte
 abbrev pub Placed : Cursor → Type 0
 Placed c = c .line ≤ c .at + 1

@@ -13,6 +13,9 @@ use Rattle.text.specs.declared.ReadQuery.{ReadQuery}
 use Rattle.text.specs.declared.ReadDatabase.{ReadDatabase}
 use Rattle.text.specs.declared.ReadStep.{ReadStep}
 use Rattle.text.specs.declared.ReadStep.the-variants.{Step, Bad}
+use Rattle.text.specs.declared.DueStep.{DueStep}
+use Rattle.text.specs.declared.DueStep.the-variants as due
+use Rattle.text.specs.declared.line_reader.Cursor.{Cursor}
 use Rattle.text.specs.declared.Written.{Written}
 use Rattle.text.specs.declared.Written.the-variants.{Bytes, Short}
 use Rattle.text.specs.Lines.{KindNode, stepLine}
@@ -43,6 +46,10 @@ storeAfter r store = tableEntries (readOr r) ++ drop (length (tableEntries (read
 abbrev pub stepReply : Option KindNode → ReadStep
 stepReply none = Bad
 stepReply (some s) = Step (s .kind) (s .node)
+
+abbrev pub stepDue : Option (KindNode × Cursor) → DueStep
+stepDue none = due.Bad
+stepDue (some (s, c)) = due.Next (s .kind) (s .node) (c .at)
 
 -- a text written into a lent slice: whole, or not at all where the slice is short
 abbrev pub writeReply : List ℕ → List ℕ → Written

@@ -11,6 +11,7 @@ use database::Database;
 use database::Verdict;
 use query::Query;
 pub use query_reader::read_query;
+pub use step_reader::due_step;
 pub use step_reader::read_step;
 pub use writers::write_query;
 pub use writers::write_refusal;
@@ -30,6 +31,12 @@ pub struct ReadDatabase {
 // What reading a line of a steps file replies.
 pub enum ReadStep {
     Step { kind: u32, node: u32 },
+    Bad,
+}
+
+// What the next line of a steps file replies: the step, and the place behind the line.
+pub enum DueStep {
+    Next { kind: u32, node: u32, at: usize },
     Bad,
 }
 

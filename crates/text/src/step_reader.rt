@@ -1,9 +1,13 @@
 // Reading a line of a steps file: "lines `step=kind,node`".
 ghost use mathlib.Core.Path.{_≡_};
 ghost use Rattle.text.specs.Lines.{stepLine};
-ghost use Rattle.text.specs.Replies.{stepReply};
+ghost use Prim.Native.Nat.{ℕ};
+ghost use Rattle.text.specs.Replies.{stepReply, stepDue};
+ghost use Rattle.text.specs.Cursors.{cursor, dueLine};
+use crate::DueStep;
 use crate::ReadStep;
 use crate::line_reader::ReadPair;
+use crate::line_reader::find;
 use crate::line_reader::read_two;
 
 // A steps line without its last byte.
@@ -14,4 +18,22 @@ pub fn read_step(line: &[u8]) -> ReadStep
         return ReadStep::Bad;
     };
     ReadStep::Step { kind, node }
+}
+
+// The steps line that begins at a place of a steps file, whatever its number.
+pub fn due_step(text: &[u8], at: usize) -> DueStep
+    ensures { λ r. ⌜ ((line : ℕ) → r ≡ stepDue (dueLine stepLine (now (text .entry)) (cursor at line))) ⌝ }
+{
+    let end = find(text, at, b'\n');
+    if text.len() <= end {
+        return DueStep::Bad;
+    }
+    let ReadStep::Step { kind, node } = read_step(&text[at..end]) else {
+        return DueStep::Bad;
+    };
+    DueStep::Next {
+        kind,
+        node,
+        at: end + 1,
+    }
 }
