@@ -2,3 +2,7 @@ pub mod Starred
 pub mod RunIsMeaning
 pub mod RewritesInvisible
 pub mod AtReach
+pub mod StepLists
+pub mod Printed
+pub mod FewRows
+pub mod Roomy

@@ -23,11 +23,7 @@ use Rattle.query.proofs.CheckTests.{checked-narrow}
 use Rattle.query.proofs.CheckedOver.{check-over-iff}
 use Rattle.machine.specs.Run.{Answer, execute, spaceFor, begin, runQuery}
 use Rattle.machine.proofs.RunIsMeaning.{execute-shows}
-
--- the answer is what the term t means over the book
-pub record Answers (w : ℕ) (d : Database) (store : List ℕ) (t : Term) (a : Answer) : Type 0 where
-  pub columns : a .columns ≡ columnsOf w (cols (schema w d) noCols t)
-  pub rows : Shows w (cols (schema w d) noCols t) (a .rows) (meaningOver w d store t)
+use Rattle.engine.specs.Face.{Answers}
 
 module _ (w limit : ℕ) (q : Query) (d : Database) (store : List ℕ) (L budget : ℕ) (workspace answer : List ℕ) where
   -- a run that finishes began with a checked term and executed it

@@ -1,1 +1,9 @@
-// The public face of the engine.
+// The engine: the public face over all layers.
+mod face;
+mod stages;
+mod stubs;
+
+pub use face::rewrite_each;
+pub use face::run;
+pub use face::run_rewritten;
+pub use stages::answer;

@@ -1,0 +1,109 @@
+-- A stage of `answer` prints its refusal, or what the stages behind it print.
+use mathlib.Core.Path.{_≡_, refl, ap, sym, _∙_, subst}
+use mathlib.Core.Bool.{Bool, true, false, _&&_}
+use mathlib.Core.List.{List, _++_}
+use Prim.Native.Nat.{ℕ, _≤_, _<_}
+use native.Mathlib.Omega.{arith}
+use lib.Dec.{leb}
+use lib.ListN.{length, drop}
+use borrow.Author.Tests.{le-leb, lt-leb}
+use Rattle.laws.proofs.TextLists.{Each}
+use Rattle.relation.specs.Rows.{Row, columns, rowsOf, entries}
+use Rattle.database.specs.declared.Refusal.{Refusal}
+use Rattle.database.specs.declared.Refusal.the-variants.{ShortSlice}
+use Rattle.database.specs.declared.Verdict.{Verdict}
+use Rattle.database.specs.declared.Verdict.the-variants.{Accepted, Refused}
+use Rattle.database.specs.Refusals.{Reply, refused, accepted, verdict, _>>=_}
+use Rattle.database.proofs.Verdicts.{verdict-accepted, verdict-refused}
+use Rattle.text.specs.declared.Written.{Written}
+use Rattle.text.specs.Texts.{refusalText, answerText}
+use Rattle.text.specs.Replies.{writeReply, sliceAfter}
+use Rattle.machine.specs.declared.Outcome.{Outcome}
+use Rattle.machine.specs.declared.Outcome.the-variants as outcome
+use Rattle.machine.specs.declared.Ran.{Ran}
+use Rattle.machine.specs.Run.{Answer, ranOf, answerAfter}
+use Rattle.text.proofs.Entries.{rowsOf-entries}
+use Rattle.engine.specs.Answer.{limits, replyText, answer}
+use Rattle.engine.specs.Stages.{causeOf, outcomeCause, answerBook, Writes}
+
+-- how a run ended, by its outcome
+ran-refused : (w : ℕ) (x : Reply Answer) (r : Refusal) → ranOf w x .outcome ≡ outcome.Refused r → x ≡ refused r
+ran-refused w (refused s) r e = ap refused cc
+ran-refused w (accepted a) r e = let z : _≡_ {A = ℕ} 0 1 = cc in absurd (omega arith)
+
+ran-finished : (w : ℕ) (x : Reply Answer) (rows ran : ℕ) → ranOf w x .outcome ≡ outcome.Finished rows ran
+    → (a : Answer) × (x ≡ accepted a) × (length (a .rows) ≡ rows) × (a .ran ≡ ran)
+ran-finished w (refused s) rows ran e = let z : _≡_ {A = ℕ} 0 1 = cc in absurd (omega arith)
+ran-finished w (accepted a) rows ran e = (a, refl, cc, cc)
+
+module _ {before after : List ℕ} {w : Written} where
+  -- a reply is printed
+  pub writes-as : {r s : Reply Answer} → s ≡ r → Writes (replyText r) before w after → Writes (replyText s) before w after
+  writes-as e h = subst (λ (x : Reply Answer). Writes (replyText x) before w after) (sym e) h
+
+  pub writes-refused : {s : Reply Answer} {r : Refusal} → s ≡ refused r
+      → (w ≡ writeReply (refusalText r) before) × (after ≡ sliceAfter (refusalText r) before) → Writes (replyText s) before w after
+  writes-refused e h = writes-as e (record { reply = h .0; slice = h .1 })
+
+  -- a stage whose verdict v is that of its reply r refuses; c: the cause that is printed
+  pub stops : {A : Type 0} (r : Reply A) (next : A → Reply Answer) (v : Verdict) (x c : Refusal) → v ≡ verdict r → v ≡ Refused x → c ≡ causeOf v
+      → (w ≡ writeReply (refusalText c) before) × (after ≡ sliceAfter (refusalText c) before) → Writes (replyText (r >>= next)) before w after
+  stops r next v x c told refuses is h =
+      writes-refused (ap (λ y. y >>= next) (verdict-refused r (sym refuses ∙ told)))
+      (subst (λ (y : Refusal). (w ≡ writeReply (refusalText y) before) × (after ≡ sliceAfter (refusalText y) before)) (is ∙ ap causeOf refuses) h)
+
+  -- it accepts
+  pub goes-on : {A : Type 0} (r : Reply A) (next : A → Reply Answer) (v : Verdict) → v ≡ verdict r → v ≡ Accepted
+      → ((a : A) → r ≡ accepted a → Writes (replyText (next a)) before w after) → Writes (replyText (r >>= next)) before w after
+  goes-on r next v told accepts behind =
+      let (a, e) = verdict-accepted r (sym accepts ∙ told) in
+      writes-as (ap (λ y. y >>= next) e) (behind a e)
+
+  -- the run refuses
+  pub run-stops : {x s : Reply Answer} → x ≡ s → (ran : Ran) → ran ≡ ranOf columns x → (r c : Refusal) → ran .outcome ≡ outcome.Refused r → c ≡ outcomeCause (ran .outcome)
+      → (w ≡ writeReply (refusalText c) before) × (after ≡ sliceAfter (refusalText c) before) → Writes (replyText s) before w after
+  run-stops {x} e ran is r c ended cause h =
+      writes-refused (sym e ∙ ran-refused columns x r (sym (ap (λ (y : Ran). y .outcome) is) ∙ ended))
+      (subst (λ (y : Refusal). (w ≡ writeReply (refusalText y) before) × (after ≡ sliceAfter (refusalText y) before)) (cause ∙ ap outcomeCause ended) h)
+
+  -- the run finishes: the answer's rows stand in the lent slice
+  pub run-ends : {x s : Reply Answer} → x ≡ s → (ran : Ran) → ran ≡ ranOf columns x → (rows lines : ℕ) → ran .outcome ≡ outcome.Finished rows lines
+      → (lent slice : List ℕ) → slice ≡ answerAfter x lent → ((a : Answer) → x ≡ accepted a → Each (λ (r : Row). length r ≡ columns) (a .rows))
+      → (w ≡ writeReply (answerText columns (ran .columns) (rowsOf columns rows slice) lines) before)
+      × (after ≡ sliceAfter (answerText columns (ran .columns) (rowsOf columns rows slice) lines) before)
+      → Writes (replyText s) before w after
+  run-ends {x} e ran is rows lines ended lent slice holds sized h =
+      let (a, accepts, count, counted) = ran-finished columns x rows lines (sym (ap (λ (y : Ran). y .outcome) is) ∙ ended) in
+      let cols : ran .columns ≡ a .columns = ap (λ (y : Ran). y .columns) is ∙ ap (λ y. ranOf columns y .columns) accepts in
+      let there : slice ≡ entries (a .rows) ++ drop (length (entries (a .rows))) lent = holds ∙ ap (λ y. answerAfter y lent) accepts in
+      let found : rowsOf columns rows slice ≡ a .rows =
+          ap (λ n. rowsOf columns n slice) (sym count) ∙ ap (rowsOf columns (length (a .rows))) there ∙ rowsOf-entries columns (a .rows) _ (sized a accepts) in
+      let text : answerText columns (ran .columns) (rowsOf columns rows slice) lines ≡ replyText (accepted a) =
+          ap (λ y. answerText columns y (rowsOf columns rows slice) lines) cols ∙ ap (λ y. answerText columns (a .columns) y lines) found
+          ∙ ap (answerText columns (a .columns) (a .rows)) (sym counted) in
+      writes-as (sym e ∙ accepts) (record { reply = h .0 ∙ ap (λ y. writeReply y before) text; slice = h .1 ∙ ap (λ y. sliceAfter y before) text })
+
+-- "8,192 bytes a file (else 17)"
+module _ (sheet book steps : List ℕ) where
+  over : (x y z : Bool) → (x && y && z ≡ false) → leb (length sheet) (limits .bytes) ≡ x → leb (length book) (limits .bytes) ≡ y → leb (length steps) (limits .bytes) ≡ z
+      → answer sheet book steps ≡ refused ShortSlice
+  unfolding answer
+  over x y z e f g h = rw (answer, f, g, h, e)
+
+  pub long-sheet : limits .bytes < length sheet → answer sheet book steps ≡ refused ShortSlice
+  long-sheet h = over false (leb (length book) (limits .bytes)) (leb (length steps) (limits .bytes)) refl (lt-leb (length sheet) (limits .bytes) h) refl refl
+
+  pub long-book : limits .bytes < length book → answer sheet book steps ≡ refused ShortSlice
+  long-book h = by-test (leb (length sheet) (limits .bytes)) refl
+    where
+      by-test : (x : Bool) → leb (length sheet) (limits .bytes) ≡ x → answer sheet book steps ≡ refused ShortSlice
+      by-test true e = over true false (leb (length steps) (limits .bytes)) refl e (lt-leb (length book) (limits .bytes) h) refl
+      by-test false e = over false false (leb (length steps) (limits .bytes)) refl e (lt-leb (length book) (limits .bytes) h) refl
+
+  pub long-steps : length sheet ≤ limits .bytes → length book ≤ limits .bytes → limits .bytes < length steps → answer sheet book steps ≡ refused ShortSlice
+  long-steps f g h = over true true false refl (le-leb (length sheet) (limits .bytes) f) (le-leb (length book) (limits .bytes) g) (lt-leb (length steps) (limits .bytes) h)
+
+  pub short-files : length sheet ≤ limits .bytes → length book ≤ limits .bytes → length steps ≤ limits .bytes → answer sheet book steps ≡ answerBook sheet book steps
+  unfolding answer
+  short-files f g h =
+      rw (answer, le-leb (length sheet) (limits .bytes) f, le-leb (length book) (limits .bytes) g, le-leb (length steps) (limits .bytes) h)
