@@ -1,11 +1,9 @@
--- What the readers and writers of texts reply, and what the lent slices hold afterwards. w is the number of columns.
-use mathlib.Core.Bool.{Bool, true, false}
+-- What the readers of texts reply, and what the lent slices hold afterwards. w is the number of columns.
 use mathlib.Core.Option.{Option, some, none}
 use mathlib.Core.List.{List, [], _∷_, _++_}
 use Prim.Native.Nat.{ℕ}
 use lib.Dec.{leb}
 use lib.ListN.{length, drop}
-use Rattle.laws.specs.Lists.{if_then_else_}
 use Rattle.database.specs.declared.Refusal.the-variants.{ShortSlice}
 use Rattle.database.specs.Refusals.{Reply, refused, accepted, require, verdict, _>>=_}
 use Rattle.query.specs.declared.Node.{Node}
@@ -13,8 +11,6 @@ use Rattle.text.specs.declared.ReadQuery.{ReadQuery}
 use Rattle.text.specs.declared.ReadDatabase.{ReadDatabase}
 use Rattle.text.specs.declared.ReadStep.{ReadStep}
 use Rattle.text.specs.declared.ReadStep.the-variants.{Step, Bad}
-use Rattle.text.specs.declared.Written.{Written}
-use Rattle.text.specs.declared.Written.the-variants.{Bytes, Short}
 use Rattle.text.specs.Lines.{KindNode, stepLine}
 use Rattle.text.specs.Texts.{Table, readTables, queryValue, databaseValue, tableEntries}
 
@@ -43,10 +39,3 @@ storeAfter r store = tableEntries (readOr r) ++ drop (length (tableEntries (read
 abbrev pub stepReply : Option KindNode → ReadStep
 stepReply none = Bad
 stepReply (some s) = Step (s .kind) (s .node)
-
--- a text written into a lent slice: whole, or not at all where the slice is short
-abbrev pub writeReply : List ℕ → List ℕ → Written
-writeReply text slice = if leb (length text) (length slice) then Bytes (length text) else Short
-
-abbrev pub sliceAfter : List ℕ → List ℕ → List ℕ
-sliceAfter text slice = if leb (length text) (length slice) then text ++ drop (length text) slice else slice

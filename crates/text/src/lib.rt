@@ -1,19 +1,15 @@
-// Reading and writing document 01's text forms.
+// Reading document 01's text forms.
 mod line_reader;
 mod node_reader;
 mod number_reader;
-mod output;
 mod query_reader;
 mod step_reader;
-mod writers;
 
 use database::Database;
 use database::Verdict;
 use query::Query;
 pub use query_reader::read_query;
 pub use step_reader::read_step;
-pub use writers::write_query;
-pub use writers::write_refusal;
 
 // What reading a query replies; a refusal comes with the empty query.
 pub struct ReadQuery {
@@ -31,10 +27,4 @@ pub struct ReadDatabase {
 pub enum ReadStep {
     Step { kind: u32, node: u32 },
     Bad,
-}
-
-// What writing a text into a lent slice replies: how many bytes it took, or that the slice is short.
-pub enum Written {
-    Bytes(usize),
-    Short,
 }
