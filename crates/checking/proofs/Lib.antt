@@ -1,3 +1,3 @@
 pub mod ColumnNodes
 pub mod FaultNodes
-pub mod Stages
+pub mod StageReplies

@@ -12,14 +12,14 @@ use Rattle.database.specs.declared.Database.{Database}
 use Rattle.database.specs.declared.Refusal.{Refusal}
 use Rattle.database.specs.declared.Verdict.{Verdict}
 use Rattle.database.specs.declared.Verdict.the-variants.{Accepted, Refused}
-use Rattle.database.specs.Stored.{schema}
+use Rattle.database.specs.Stored.{schema, checkDatabase}
 use Rattle.database.specs.Refusals.{Reply, refused, accepted, verdict, noFault, _>>=_}
 use Rattle.query.specs.declared.Query.{Query}
 use Rattle.query.specs.declared.Variables.{Variables}
 use Rattle.query.specs.declared.CheckedShape.{CheckedShape}
 use Rattle.query.specs.declared.CheckedQuery.{CheckedQuery}
 use Rattle.query.specs.Lines.{nodeLimit, nodes, checkForm, lines, termOf}
-use Rattle.query.specs.Check.{firstPass, secondPass, faults, checkQuery}
+use Rattle.query.specs.Check.{firstPass, secondPass, faults, checkQuery, checkOver}
 use Rattle.query.specs.Facts.{Visit, variablesOf, padded, factsOf, checkedValue}
 use Rattle.query.specs.Shape.{starts, shapeOf, Shaped, Formed}
 use Rattle.query.specs.Passes.{visitsOf}
@@ -42,6 +42,16 @@ pub blank-facts : (G : Schema) → G .width ≡ columns → (x : Refusal) (v : V
 blank-facts G w x v e C f =
     ap₂ (λ (s : Variables) (D : Columns). value (Refused x) (replicate nodeLimit 0) (replicate nodeLimit s) (replicate nodeLimit D)) e
     (f ∙ ap (λ (k : ℕ). columnsOf k noCols) (sym w))
+
+-- 11
+module _ (w limit : ℕ) (q : Query) (d : Database) (store : List ℕ) where
+  pub book-refused : (x : Refusal) → verdict (checkDatabase w d store) ≡ Refused x → checkOver w limit q d store ≡ refused x
+  unfolding checkOver
+  book-refused x e = ap (λ (r : Reply (Unit {0})). r >>= λ _. checkQuery limit q (schema w d)) (verdict-refused (checkDatabase w d store) x e)
+
+  pub book-passed : verdict (checkDatabase w d store) ≡ Accepted → checkOver w limit q d store ≡ checkQuery limit q (schema w d)
+  unfolding checkOver
+  book-passed e = ap (λ (r : Reply (Unit {0})). r >>= λ _. checkQuery limit q (schema w d)) (verdict-accepted (checkDatabase w d store) e)
 
 -- 2 and 1
 module _ (q : Query) (G : Schema) (limit : ℕ) where

@@ -1,9 +1,10 @@
-// Document 01's "Checking": 2, then 1, 3, 4 to 8, and 9 and 10; what it tells of each node of a query that it accepts.
+// Document 01's "Checking": 11 for the database; 2, then 1, 3, 4 to 8, and 9 and 10 for the query; what it tells of each node of a query that it accepts.
 use super::node_columns::column_sets;
 use super::second_pass::second_pass;
 use database::Database;
 use database::Refusal;
 use database::Verdict;
+use database::check_database;
 use query::CheckedQuery;
 use query::Facts;
 use query::NODES;
@@ -22,7 +23,7 @@ ghost use Rattle.relation.specs.Rows.{columns};
 ghost use Rattle.database.specs.Stored.{schema};
 ghost use Rattle.database.specs.Refusals.{Reply, refused};
 ghost use Rattle.query.specs.Lines.{nodeLimit};
-ghost use Rattle.query.specs.Check.{checkQuery};
+ghost use Rattle.query.specs.Check.{checkQuery, checkOver};
 ghost use Rattle.query.specs.Facts.{checkedValue};
 ghost use Rattle.query.specs.Shape.{Shaped, Formed};
 ghost use Rattle.query.specs.FreeSets.{freeSets};
@@ -101,5 +102,15 @@ pub fn check_query(query: Query, database: Database, limit: usize) -> CheckedQue
     match check_form(query, limit) {
         Verdict::Refused(cause) => refusal(cause),
         Verdict::Accepted => check_shape(query, database),
+    }
+}
+
+// "A sheet is checked over a book if neither gets a number from 1 to 11": 11 first, then the check of the query.
+pub fn check(query: Query, database: Database, store: &[u32], limit: usize) -> CheckedQuery
+    ensures { λ r. ⌜ r ≡ checkedValue (schema columns database) (checkOver columns (min limit nodeLimit) query database (now (store .entry))) ⌝ }
+{
+    match check_database(database, store) {
+        Verdict::Refused(cause) => refusal(cause),
+        Verdict::Accepted => check_query(query, database, limit),
     }
 }

@@ -1,13 +1,13 @@
--- `check::check_columns`: the refusal of the second pass, or the facts.
+-- `stages::check_columns`: the refusal of the second pass, or the facts.
 use borrow.Author.Needs.{needs}
 use mathlib.Core.Path.{refl, ap, sym, _∙_}
 use Rattle.relation.specs.Rows.{columns}
 use Rattle.database.specs.Stored.{schema}
 use Rattle.query.specs.Lines.{nodes, termOf}
 use Rattle.query.specs.Facts.{checkedValue}
-use Rattle.checking.proofs.Stages.{second-refused, second-passed, shaped-facts}
-use Rattle.checking.proofs.check.check_columns.Statement.{statement}
-use Rattle.checking.proofs.check.check_columns.Tie as tie
+use Rattle.checking.proofs.StageReplies.{second-refused, second-passed, shaped-facts}
+use Rattle.checking.proofs.stages.check_columns.Statement.{statement}
+use Rattle.checking.proofs.stages.check_columns.Tie as tie
 
 returns : tie.Need-returns
 returns c =

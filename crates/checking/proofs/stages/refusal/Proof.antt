@@ -1,8 +1,8 @@
--- `check::refusal` has blank facts.
+-- `stages::refusal` has blank facts.
 use borrow.Author.Needs.{needs}
-use Rattle.checking.proofs.Stages.{blank-facts}
-use Rattle.checking.proofs.check.refusal.Statement.{statement}
-use Rattle.checking.proofs.check.refusal.Tie as tie
+use Rattle.checking.proofs.StageReplies.{blank-facts}
+use Rattle.checking.proofs.stages.refusal.Statement.{statement}
+use Rattle.checking.proofs.stages.refusal.Tie as tie
 
 returns : tie.Need-returns
 returns c G w = blank-facts G w (c .before .before .args .refusal) _ (c .before .no-variables .ensures) _ (c .no-columns .ensures)

@@ -1,4 +1,4 @@
--- `check::check_query`: the refusal of the form, or what the later stages leave.
+-- `stages::check_query`: the refusal of the form, or what the later stages leave.
 use borrow.Author.Needs.{needs}
 use native.Mathlib.Omega.{arith}
 use Prim.Native.Nat.{min}
@@ -7,9 +7,9 @@ use Rattle.relation.specs.Rows.{columns}
 use Rattle.database.specs.Stored.{schema}
 use Rattle.query.specs.Lines.{nodeLimit}
 use Rattle.query.specs.Facts.{checkedValue}
-use Rattle.checking.proofs.Stages.{form-refused, form-passed, form-says}
-use Rattle.checking.proofs.check.check_query.Statement.{statement}
-use Rattle.checking.proofs.check.check_query.Tie as tie
+use Rattle.checking.proofs.StageReplies.{form-refused, form-passed, form-says}
+use Rattle.checking.proofs.stages.check_query.Statement.{statement}
+use Rattle.checking.proofs.stages.check_query.Tie as tie
 
 check-shape-requires : tie.Need-check-shape-requires
 check-shape-requires c κs =

@@ -1,4 +1,4 @@
--- `check::check_shape`: the refusal of the shape, or what the passes leave.
+-- `stages::check_shape`: the refusal of the shape, or what the passes leave.
 use borrow.Author.Needs.{needs}
 use mathlib.Core.Path.{refl, ap, sym, _∙_}
 use Rattle.algebra.specs.Term.{Term}
@@ -8,9 +8,9 @@ use Rattle.database.specs.Refusals.{Reply, accepted, noFault, _>>=_}
 use Rattle.query.specs.Check.{faults}
 use Rattle.query.specs.Facts.{checkedValue}
 use Rattle.query.proofs.Lengths.{nodes-length}
-use Rattle.checking.proofs.Stages.{shape-refused, shape-passed}
-use Rattle.checking.proofs.check.check_shape.Statement.{statement}
-use Rattle.checking.proofs.check.check_shape.Tie as tie
+use Rattle.checking.proofs.StageReplies.{shape-refused, shape-passed}
+use Rattle.checking.proofs.stages.check_shape.Statement.{statement}
+use Rattle.checking.proofs.stages.check_shape.Tie as tie
 
 check-scope-requires : tie.Need-check-scope-requires
 check-scope-requires c κs =

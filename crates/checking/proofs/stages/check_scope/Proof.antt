@@ -1,13 +1,13 @@
--- `check::check_scope`: the refusal of the first pass, or what the second one leaves.
+-- `stages::check_scope`: the refusal of the first pass, or what the second one leaves.
 use borrow.Author.Needs.{needs}
 use mathlib.Core.Path.{refl, ap, sym, _∙_}
 use Rattle.relation.specs.Rows.{columns}
 use Rattle.database.specs.Stored.{schema}
 use Rattle.query.specs.Lines.{nodes, termOf}
 use Rattle.query.specs.Facts.{checkedValue}
-use Rattle.checking.proofs.Stages.{first-refused, first-passed}
-use Rattle.checking.proofs.check.check_scope.Statement.{statement}
-use Rattle.checking.proofs.check.check_scope.Tie as tie
+use Rattle.checking.proofs.StageReplies.{first-refused, first-passed}
+use Rattle.checking.proofs.stages.check_scope.Statement.{statement}
+use Rattle.checking.proofs.stages.check_scope.Tie as tie
 
 returns : tie.Need-returns
 returns c =
