@@ -3,6 +3,7 @@ use mathlib.Core.Path.{_≡_, refl, ap, sym, _∙_}
 use mathlib.Core.List.{List, [], _∷_, _++_}
 use Prim.Native.Nat.{ℕ, _+_, _<_}
 use lib.ListN.{length, getD, take}
+use lib.Seq.{take-length}
 use Rattle.laws.proofs.Passes.{walk, walk-more, walk-split}
 use Rattle.algebra.specs.Term.{Term}
 use Rattle.algebra.specs.Columns.{noCols, Schema}
@@ -39,6 +40,10 @@ module _ (f : List Visit → Visit → List Refusal) (vs : List Visit) where
   pub passed-none : Passed 0
   unfolding walk
   passed-none = refl
+
+  pub passed-all : (i : ℕ) → i ≡ length vs → Passed i → verdict (noFault (walk f [] vs)) ≡ Accepted
+  passed-all i e p =
+      ap (λ (l : List Visit). verdict (noFault (walk f [] l))) (sym (ap (λ (k : ℕ). take k vs) e ∙ take-length vs)) ∙ ap verdict p
 
   module _ (i : ℕ) (h : i < length vs) (p : Passed i) where
     pub passed-more : Accepted ≡ verdict (noFault (f (take i vs) (getD vs i noVisit))) → Passed (i + 1)
