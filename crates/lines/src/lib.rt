@@ -1,9 +1,12 @@
 // The plan lines that work row by row: each gives its destination register the rows that its definition says.
 pub mod changes; // changes.rt: filter, copy, drop
+pub mod pairs; // pairs.rt: join, except
 pub mod rows; // rows.rt: a fact, a table
 
 use algebra::Condition;
 pub use changes::change_line;
+pub use pairs::except_line;
+pub use pairs::join_line;
 pub use rows::fact_line;
 pub use rows::table_line;
 
