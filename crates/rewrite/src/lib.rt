@@ -5,6 +5,7 @@ use relation::Columns;
 
 mod nodes; // nodes.rt: the line of a node and what the check tells of it
 mod path; // path.rt: the columns along the path of a fix
+mod splice; // splice.rt: the moves of lines by which the rules write their sheets
 
 // What a rewrite hands back: the rule's query, or the query as given beside the refusal.
 pub struct Rewritten {
