@@ -5,7 +5,8 @@ use Prim.Native.Nat.{ℕ, _+_, _-_, _≤_, _<_}
 use native.Mathlib.Omega.{arith}
 use lib.ListN.{length, take, drop, set, length-append, length-drop, length-map, take-append-drop}
 use lib.Seq.{paste, drop-at, length-take-le}
-use Rattle.rewrite.proofs.Splices.{write-some, write-one, take-map}
+use Rattle.laws.proofs.Passes.{take-map}
+use Rattle.rewrite.proofs.Splices.{write-some, write-one}
 use Rattle.rewrite.specs.Splices.{exchanged}
 
 -- nothing is written at first

@@ -1,6 +1,6 @@
 -- A list written over from an index on: what has been written stands before what has not.
 use mathlib.Core.Path.{_≡_, refl, ap, ap₂, sym, _∙_}
-use mathlib.Core.List.{List, [], _∷_, _++_, map, append-assoc}
+use mathlib.Core.List.{List, [], _∷_, _++_, append-assoc}
 use Prim.Native.Nat.{ℕ, zero, suc, _+_, _<_}
 use native.Mathlib.Omega.{arith}
 use native.Mathlib.Numerals.{add-one}
@@ -32,9 +32,3 @@ module _ {A : Type 0} where
 
   pub rest-at : (p x r : List A) (n : ℕ) → length p + length x ≡ n → drop n (p ++ (x ++ r)) ≡ r
   rest-at p x r n e = ap (drop n) (sym (append-assoc p x r)) ∙ drop-at (p ++ x) r n (length-append p x ∙ e)
-
--- a part of a list, element by element
-pub take-map : {A B : Type 0} (f : A → B) (k : ℕ) (l : List A) → take k (map f l) ≡ map f (take k l)
-take-map f zero l = refl
-take-map f (suc k) [] = refl
-take-map f (suc k) (a ∷ l) = ap (λ (r : List _). f a ∷ r) (take-map f k l)
