@@ -1,7 +1,7 @@
 // Reading document 01's text forms.
-mod line_reader;
+pub mod line_reader;
 mod node_reader;
-mod number_reader;
+pub mod number_reader;
 mod query_reader;
 mod step_reader;
 
