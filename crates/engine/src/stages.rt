@@ -1,10 +1,10 @@
 // What the program `answer` prints for the bytes of its three files: "It takes 24 nodes (else 2), L = 24, 1,000,000 lines, 384 stored rows and
 // 8,192 bytes a file (else 17)."
-use super::stubs::check;
-use super::stubs::read_database;
+use checking::check;
+use loading::read_database;
 use super::stubs::rewrite;
 use super::stubs::run;
-use super::stubs::write_answer;
+use writing::write_answer;
 use database::Database;
 use database::Refusal;
 use database::Verdict;
@@ -13,15 +13,15 @@ use query::Query;
 use relation::COLUMNS;
 use rewrite::Rewritten;
 use text::DueStep;
-use text::Written;
+use writing::Written;
 use text::due_step;
 use text::read_query;
-use text::write_refusal;
+use writing::write_refusal;
 ghost use mathlib.Core.Path.{_≡_};
 ghost use lib.ListN.{length};
 ghost use Rattle.rewrite.specs.Rewrite.{rewritten};
 ghost use Rattle.text.specs.Lines.{whole};
-ghost use Rattle.text.specs.Replies.{writeReply, sliceAfter};
+ghost use Rattle.writing.specs.Replies.{writeReply, sliceAfter};
 ghost use Rattle.engine.specs.Answer.{applySteps, replyText, answerBytes};
 ghost use Rattle.engine.specs.Stages.{causeOf, outcomeCause, answerRun, answerSteps, answerQuery, answerSheet, answerBook, Writes};
 

@@ -26,8 +26,8 @@ use Rattle.query.specs.Shape.{root}
 use Rattle.query.proofs.Starts.{size-pos}
 use Rattle.query.proofs.Complete.{path-member}
 use Rattle.rewrite.specs.declared.PathColumns.{PathColumns}
-use Rattle.rewrite.specs.Places.{lineAt, startAt, columnsAt, last, Told, Stands, LoopAt}
-use Rattle.rewrite.specs.Path.{lineDrops, lineUses, onPath, operandAt, besideAt, dropsAt, usesAt, gathered, pathColumns}
+use Rattle.rewrite.specs.Places.{lineAt, startAt, columnsAt, last, Told, Stands, fixNumber, LoopAt}
+use Rattle.rewrite.specs.Path.{lineDrops, lineUses, onPath, operandAt, besideAt, dropsAt, usesAt, gathered, pathAt, pathColumns}
 use Rattle.rewrite.proofs.GrownColumns.{columns-same, columns-back}
 use Rattle.rewrite.proofs.OnPath.{along, stands-told, told-path, path-along}
 
@@ -154,7 +154,7 @@ module _ (G : Schema) (q : Query) (facts : Facts) (v : ℕ) (low : v < tableLimi
   along-used h (p-drop {c = c} {a = a} i k) C n (r, s) = one-uses (along-used h i C n s) (uses-line r _ (omega arith))
 
 -- the lines of a fix's step
-pub loop-gathers : {G : Schema} {q : Query} {facts : Facts} {C : Cols} {f : ℕ} {x : Loop} → LoopAt G q facts C f x
+loop-gathers : {G : Schema} {q : Query} {facts : Facts} {C : Cols} {f : ℕ} {x : Loop} → LoopAt G q facts C f x
     → gathered q facts (x .var) (startAt facts (f - 1)) (f - startAt facts (f - 1)) ≡ pathColumns G (x .step)
 unfolding Stands size
 loop-gathers {G} {q} {facts} {C} {f} {x} l =
@@ -177,6 +177,10 @@ loop-gathers {G} {q} {facts} {C} {f} {x} l =
     ∙ along-used G q facts v (l .number) e h (l .path) (cols G C (x .seed)) n w)
 
 -- the line of the fix, which names its variable
-pub loop-line : {G : Schema} {q : Query} {facts : Facts} {C : Cols} {f : ℕ} {x : Loop} → LoopAt G q facts C f x → lineAt q f ≡ Fix (x .var)
+loop-line : {G : Schema} {q : Query} {facts : Facts} {C : Cols} {f : ℕ} {x : Loop} → LoopAt G q facts C f x → lineAt q f ≡ Fix (x .var)
 unfolding Stands size
 loop-line {q = q} l = let place = l .place in ap (lineAt q) (omega arith) ∙ l .stands .0 .line
+
+pub loop-path : {G : Schema} {q : Query} {facts : Facts} {C : Cols} {f : ℕ} {x : Loop} → LoopAt G q facts C f x → pathAt q facts f ≡ pathColumns G (x .step)
+loop-path {q = q} {facts = facts} {f = f} l =
+    ap (λ (v : ℕ). gathered q facts v (startAt facts (f - 1)) (f - startAt facts (f - 1))) (ap fixNumber (loop-line l)) ∙ loop-gathers l

@@ -11,3 +11,5 @@ pub mod GrownColumns
 pub mod Gathered
 pub mod OnPath
 pub mod AlongPath
+pub mod Splices
+pub mod Moves

@@ -45,7 +45,7 @@ pub record RuleSheet (q p : Query) (k n : ℕ) : Type 0 where
   pub past : dropFirst (length (nodes p)) (p .lines) ≡ dropFirst (length (nodes q)) (q .lines)
 
 -- the fix numbers of a node are some of the sheet's
-few-numbers : Downward (λ t. (v : ℕ) → count v (fixNumbers t) ≤ 1)
+pub few-numbers : Downward (λ t. (v : ℕ) → count v (fixNumbers t) ≤ 1)
 unfolding fixNumbers
 few-numbers = record {
   of-pair = λ o a b h. ((λ v. omega (arith, h v, count-append v (fixNumbers a) (fixNumbers b))), λ v. omega (arith, h v, count-append v (fixNumbers a) (fixNumbers b)));

@@ -12,7 +12,7 @@ use Rattle.query.specs.declared.Node.the-variants.{Table, Var, Fact, Pair, Filt
 use Rattle.query.specs.declared.Query.{Query}
 use Rattle.query.specs.declared.Facts.{Facts}
 use Rattle.rewrite.specs.declared.PathColumns.{PathColumns}
-use Rattle.rewrite.specs.Places.{lineAt, startAt, freeAt, columnsAt, holds}
+use Rattle.rewrite.specs.Places.{lineAt, startAt, freeAt, columnsAt, holds, fixNumber}
 
 -- some number of the k from n on passes
 unfoldable pub anyFrom : (ℕ → Bool) → ℕ → ℕ → Bool
@@ -76,6 +76,10 @@ module _ (q : Query) (facts : Facts) (v : ℕ) where
         dropped = columnsOf columns (λ e. anyFrom (λ j. dropsAt j e) n k);
         used = columnsOf columns (λ e. anyFrom (λ j. usesAt j e) n k);
       }
+
+-- of the path of the fix of index f, whose step's lines end before its own
+abbrev pub pathAt : Query → Facts → ℕ → PathColumns
+pathAt q facts f = gathered q facts (fixNumber (lineAt q f)) (startAt facts (f - 1)) (f - startAt facts (f - 1))
 
 -- "stable" and "used" of a fix's step, as the code holds them
 abbrev pub pathColumns : Schema → Term → PathColumns

@@ -90,10 +90,3 @@ pub record LoopAt (G : Schema) (q : Query) (facts : Facts) (C : Cols) (f : ℕ) 
   pub within : f < q .count
   pub fits : q .count ≤ nodeLimit
   pub low : StartsLow facts
-
--- some fix has the index f
-pub record FixAt (q : Query) (facts : Facts) (f : ℕ) : Type 0 where
-  pub schema : Schema
-  pub around : Cols
-  pub loop : Loop
-  pub at : LoopAt schema q facts around f loop

@@ -16,12 +16,11 @@ ghost use mathlib.Core.Path.{_≡_};
 ghost use mathlib.Core.List.{[], _∷_};
 ghost use Prim.Native.Nat.{_+_, _-_, _≤_, _<_};
 ghost use Rattle.laws.specs.Lists.{member};
-ghost use Rattle.algebra.specs.Columns.{Cols, both, Schema, named};
-ghost use Rattle.algebra.specs.Rules.{Loop};
+ghost use Rattle.algebra.specs.Columns.{both, named};
 ghost use Rattle.relation.specs.Rows.{columns, colsOf, columnsOf};
 ghost use Rattle.query.specs.Lines.{nodeLimit};
-ghost use Rattle.rewrite.specs.Places.{StartsLow, LoopAt, FixAt};
-ghost use Rattle.rewrite.specs.Path.{lineDrops, lineUses, operandAt, besideAt, dropsAt, usesAt, grown, gathered, pathColumns};
+ghost use Rattle.rewrite.specs.Places.{StartsLow};
+ghost use Rattle.rewrite.specs.Path.{lineDrops, lineUses, operandAt, besideAt, dropsAt, usesAt, grown, gathered, pathAt};
 
 // The set with two columns more.
 fn with_two(cols: Columns, c: u32, d: u32) -> Columns
@@ -133,8 +132,8 @@ fn gather(query: Query, facts: Facts, v: u32, first: usize, end: usize) -> PathC
 
 // "Column conditions hold along the path": of the fix of an index, the columns that a drop on it names and those that are used.
 pub fn path(query: Query, facts: Facts, fix: usize) -> PathColumns
-    requires { ⌜ FixAt query facts fix ⌝ }
-    ensures { λ r. ⌜ ((G : Schema) (C : Cols) (x : Loop) → LoopAt G query facts C fix x → r ≡ pathColumns G (x .step)) ⌝ }
+    requires { ⌜ (fix < query .count) × (query .count ≤ nodeLimit) × StartsLow facts ⌝ }
+    ensures { λ r. ⌜ r ≡ pathAt query facts fix ⌝ }
 {
     let v = fix_number(node_at(query, fix));
     let first = facts.start[before(fix)];

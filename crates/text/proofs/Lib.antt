@@ -7,11 +7,6 @@ pub mod Numbers
 pub mod ReaderLawsDue
 pub mod ReaderLawsMany
 pub mod ReaderLawsQuery
-pub mod Puts
-pub mod LastDigit
-pub mod Measured
-pub mod PrintedLines
-pub mod QueryLines
 pub mod NumberLists
 pub mod Forms
 pub mod NodeForms

@@ -16,7 +16,7 @@ use Rattle.laws.proofs.Options.{none-some, some-inj}
 use Rattle.database.specs.declared.Refusal.{Refusal}
 use Rattle.database.specs.Refusals.{Reply, refused, accepted, _>>=_}
 use Rattle.text.specs.declared.line_reader.Cursor.{Cursor}
-use Rattle.text.specs.declared.line_reader.DueWord.the-variants as word
+use Rattle.text.specs.declared.line_reader.Due.the-variants as word
 use Rattle.text.specs.declared.line_reader.DueCount.the-variants as count
 use Rattle.text.specs.declared.line_reader.Opened.{Opened}
 use Rattle.text.specs.declared.line_reader.Opened.the-variants as opened

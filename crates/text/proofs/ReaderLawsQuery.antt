@@ -27,6 +27,7 @@ use Rattle.text.specs.Texts.{readNodes, queryValue}
 use Rattle.text.specs.Replies.{queryReply}
 use Rattle.text.specs.Cursors.{restAt, Placed, dueLine, nodeDue, openedAt}
 use Rattle.text.specs.QueryReading.{stored, endTest, queryOr, endReply, lineNodes}
+use Rattle.text.proofs.Exact.{many-again}
 use Rattle.text.proofs.ReaderLawsDue.{dueReply, due-reply, due-placed, opening, behindOpened, opening-reply}
 use Rattle.text.proofs.ReaderLawsMany.{Left, left-none, left-more, left-stops, left-all}
 
@@ -100,7 +101,7 @@ pub record Turn (w : ℕ) (text : List ℕ) (first : Cursor) (count : ℕ) (quer
   pub nodes : List Node
   pub long : length nodes ≡ i
   pub held : i ≤ nodeLimit → query ≡ queryValue nodes
-  pub left : Left (due QueryForm (nodeLine w)) count (restAt text first) nodes (restAt text c)
+  pub left : Left (many-again (due QueryForm (nodeLine w))) count tt (restAt text first) nodes (restAt text c)
 
 pub turn-none : (w : ℕ) (text : List ℕ) (first : Cursor) (count : ℕ) (query : Query) → Placed first → query ≡ queryValue [] → Turn w text first count query first 0
 turn-none w text first count query h e =
@@ -110,7 +111,7 @@ turn-none w text first count query h e =
       nodes = [];
       long = refl;
       held = λ _. e;
-      left = left-none (due QueryForm (nodeLine w)) count (restAt text first);
+      left = left-none (many-again (due QueryForm (nodeLine w))) count tt (restAt text first);
     }
 
 module _ (w : ℕ) (text : List ℕ) (first : Cursor) (count : ℕ) (query : Query) (c : Cursor) (i : ℕ) (t : Turn w text first count query c i) where
@@ -129,14 +130,14 @@ module _ (w : ℕ) (text : List ℕ) (first : Cursor) (count : ℕ) (query : Que
         nodes = t .nodes ++ (n ∷ []);
         long = omega (arith, length-append (t .nodes) (n ∷ []));
         held = λ k. ap (λ q. stored q n) (t .held (omega arith)) ∙ stored-more (t .nodes) n (omega arith);
-        left = left-more part count (restAt text first) (restAt text c) (t .nodes) (t .left) n (restAt text next) (omega arith) (here (some (n, next)) e);
+        left = left-more (many-again part) count tt (restAt text first) (restAt text c) (t .nodes) (t .left) n (restAt text next) (omega arith) (here (some (n, next)) e);
       }
 
   pub turn-stops : i < count → (limit : ℕ) → dueLine (nodeLine w) text c ≡ none → lineNodes w text first count limit ≡ refused (QueryForm (c .line))
   turn-stops h limit e =
       let long = t .long in
       ap (λ r. r >>= (λ p. endTest (p .1) count limit >>= (λ _. accepted (p .0))))
-      (left-stops part count (restAt text first) (restAt text c) (t .nodes) (t .left) (QueryForm (c .line)) (omega arith) (here none e))
+      (left-stops (many-again part) count tt (restAt text first) (restAt text c) (t .nodes) (t .left) (QueryForm (c .line)) (omega arith) (here none e))
 
   pub turn-all : count ≤ i → (limit : ℕ) → endReply text c count limit query ≡ queryReply (lineNodes w text first count limit)
   turn-all h limit =
@@ -144,7 +145,7 @@ module _ (w : ℕ) (text : List ℕ) (first : Cursor) (count : ℕ) (query : Que
       let few = t .few in
       end-query text c count limit (t .nodes) query (λ k. t .held (omega arith))
       ∙ ap (λ r. queryReply (r >>= (λ p. endTest (p .1) count limit >>= (λ _. accepted (p .0)))))
-      (sym (left-all part count (restAt text first) (restAt text c) (t .nodes) (t .left) (omega arith)))
+      (sym (left-all (many-again part) count tt (restAt text first) (restAt text c) (t .nodes) (t .left) (omega arith)))
 
 -- what stands behind the lines that open a sheet's text
 module _ (w : ℕ) (text : List ℕ) (limit : ℕ) where

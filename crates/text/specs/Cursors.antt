@@ -9,8 +9,8 @@ use Rattle.laws.specs.Lists.{if_then_else_}
 use Rattle.laws.specs.Options.{mapped}
 use Rattle.query.specs.declared.Node.{Node}
 use Rattle.text.specs.declared.line_reader.Cursor.{Cursor}
-use Rattle.text.specs.declared.line_reader.DueWord.{DueWord}
-use Rattle.text.specs.declared.line_reader.DueWord.the-variants as word
+use Rattle.text.specs.declared.line_reader.Due.{Due}
+use Rattle.text.specs.declared.line_reader.Due.the-variants as word
 use Rattle.text.specs.declared.line_reader.DueCount.{DueCount}
 use Rattle.text.specs.declared.line_reader.DueCount.the-variants as count
 use Rattle.text.specs.declared.line_reader.Opened.{Opened}
@@ -45,7 +45,7 @@ dueLine form text c =
     then mapped (λ a. (a, behindLine c (lineEnd text c))) (form (take (lineEnd text c - c .at) (drop (c .at) text)))
     else none
 
-abbrev pub wordReply : Option (Unit {0} × Cursor) → DueWord
+abbrev pub wordReply : Option (Unit {0} × Cursor) → Due
 wordReply none = word.Bad
 wordReply (some p) = word.Next (p .1)
 

@@ -5,4 +5,3 @@ pub mod Replies
 pub mod Readings
 pub mod Cursors
 pub mod QueryReading
-pub mod Output

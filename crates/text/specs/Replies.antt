@@ -1,11 +1,9 @@
--- What the readers and writers of texts reply, and what the lent slices hold afterwards. w is the number of columns.
-use mathlib.Core.Bool.{Bool, true, false}
+-- What the readers of texts reply, and what the lent slices hold afterwards. w is the number of columns.
 use mathlib.Core.Option.{Option, some, none}
 use mathlib.Core.List.{List, [], _∷_, _++_}
 use Prim.Native.Nat.{ℕ}
 use lib.Dec.{leb}
 use lib.ListN.{length, drop}
-use Rattle.laws.specs.Lists.{if_then_else_}
 use Rattle.database.specs.declared.Refusal.the-variants.{ShortSlice}
 use Rattle.database.specs.Refusals.{Reply, refused, accepted, require, verdict, _>>=_}
 use Rattle.query.specs.declared.Node.{Node}
@@ -16,8 +14,6 @@ use Rattle.text.specs.declared.ReadStep.the-variants.{Step, Bad}
 use Rattle.text.specs.declared.DueStep.{DueStep}
 use Rattle.text.specs.declared.DueStep.the-variants as due
 use Rattle.text.specs.declared.line_reader.Cursor.{Cursor}
-use Rattle.text.specs.declared.Written.{Written}
-use Rattle.text.specs.declared.Written.the-variants.{Bytes, Short}
 use Rattle.text.specs.Lines.{KindNode, stepLine}
 use Rattle.text.specs.Texts.{Table, readTables, queryValue, databaseValue, tableEntries}
 
@@ -50,10 +46,3 @@ stepReply (some s) = Step (s .kind) (s .node)
 abbrev pub stepDue : Option (KindNode × Cursor) → DueStep
 stepDue none = due.Bad
 stepDue (some (s, c)) = due.Next (s .kind) (s .node) (c .at)
-
--- a text written into a lent slice: whole, or not at all where the slice is short
-abbrev pub writeReply : List ℕ → List ℕ → Written
-writeReply text slice = if leb (length text) (length slice) then Bytes (length text) else Short
-
-abbrev pub sliceAfter : List ℕ → List ℕ → List ℕ
-sliceAfter text slice = if leb (length text) (length slice) then text ++ drop (length text) slice else slice

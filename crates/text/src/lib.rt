@@ -1,11 +1,9 @@
-// Reading and writing document 01's text forms.
-mod line_reader;
+// Reading document 01's text forms.
+pub mod line_reader;
 mod node_reader;
-mod number_reader;
-mod output;
+pub mod number_reader;
 mod query_reader;
 mod step_reader;
-mod writers;
 
 use database::Database;
 use database::Verdict;
@@ -13,8 +11,6 @@ use query::Query;
 pub use query_reader::read_query;
 pub use step_reader::due_step;
 pub use step_reader::read_step;
-pub use writers::write_query;
-pub use writers::write_refusal;
 
 // What reading a query replies; a refusal comes with the empty query.
 pub struct ReadQuery {
@@ -38,10 +34,4 @@ pub enum ReadStep {
 pub enum DueStep {
     Next { kind: u32, node: u32, at: usize },
     Bad,
-}
-
-// What writing a text into a lent slice replies: how many bytes it took, or that the slice is short.
-pub enum Written {
-    Bytes(usize),
-    Short,
 }

@@ -22,8 +22,8 @@ pub struct Cursor {
     pub line: usize,
 }
 
-// What a due line that is a word replies.
-pub enum DueWord {
+// What a due line replies whose value stands beside, or that has none.
+pub enum Due {
     Next(Cursor),
     Bad,
 }
@@ -41,7 +41,7 @@ pub enum Opened {
 }
 
 // Where a byte stands first from a position on, or the end of the text.
-pub(crate) fn find(text: &[u8], at: usize, b: u8) -> usize
+pub fn find(text: &[u8], at: usize, b: u8) -> usize
     ensures { λ r. ⌜ r ≡ at + before b (drop at (now (text .entry))) ⌝ }
 {
     let mut i = at;
@@ -55,7 +55,7 @@ pub(crate) fn find(text: &[u8], at: usize, b: u8) -> usize
 }
 
 // A line begins with a key.
-pub(crate) fn starts(line: &[u8], key: &[u8]) -> bool
+pub fn starts(line: &[u8], key: &[u8]) -> bool
     ensures { λ r. ⌜ r ≡ present (after (now (key .entry)) (now (line .entry))) ⌝ }
 {
     if line.len() < key.len() {
@@ -128,22 +128,22 @@ fn read_pair(line: &[u8], at: usize) -> ReadPair
 }
 
 // A due line that is a word.
-pub(crate) fn due_word(text: &[u8], c: Cursor, word: &[u8]) -> DueWord
+pub(crate) fn due_word(text: &[u8], c: Cursor, word: &[u8]) -> Due
     requires { ⌜ Placed c ⌝ }
     ensures { λ r. ⌜ r ≡ wordReply (dueLine (wordForm (now (word .entry))) (now (text .entry)) c) ⌝ }
 {
     let at = c.at;
     let end = find(text, at, b'\n');
     if text.len() <= end {
-        return DueWord::Bad;
+        return Due::Bad;
     }
     if is_word(&text[at..end], word) {
-        DueWord::Next(Cursor {
+        Due::Next(Cursor {
             at: end + 1,
             line: c.line + 1,
         })
     } else {
-        DueWord::Bad
+        Due::Bad
     }
 }
 
@@ -162,7 +162,7 @@ fn read_count(line: &[u8], key: &[u8], most: u32) -> ReadNumber
 }
 
 // A due line with a count.
-pub(crate) fn due_count(text: &[u8], c: Cursor, key: &[u8], most: u32) -> DueCount
+pub fn due_count(text: &[u8], c: Cursor, key: &[u8], most: u32) -> DueCount
     requires { ⌜ Placed c ⌝ }
     ensures { λ r. ⌜ r ≡ countReply (dueLine (countForm (now (key .entry)) most) (now (text .entry)) c) ⌝ }
 {
@@ -184,11 +184,11 @@ pub(crate) fn due_count(text: &[u8], c: Cursor, key: &[u8], most: u32) -> DueCou
 }
 
 // The lines that open a text: `guide=1`, and a line with a count.
-pub(crate) fn read_opening(text: &[u8], key: &[u8], most: u32) -> Opened
+pub fn read_opening(text: &[u8], key: &[u8], most: u32) -> Opened
     ensures { λ r. ⌜ r ≡ openedAt (now (key .entry)) most (now (text .entry)) ⌝ }
 {
     let start = Cursor { at: 0, line: 1 };
-    let DueWord::Next(second) = due_word(text, start, b"guide=1") else {
+    let Due::Next(second) = due_word(text, start, b"guide=1") else {
         return Opened::Bad(1);
     };
     let DueCount::Count(n, third) = due_count(text, second, key, most) else {

@@ -41,7 +41,7 @@ fn read_digits(digits: &[u8]) -> ReadNumber
 }
 
 // The number reader.
-pub(crate) fn read_number(digits: &[u8]) -> ReadNumber
+pub fn read_number(digits: &[u8]) -> ReadNumber
     ensures { λ r. ⌜ r ≡ numberReply (number (now (digits .entry))) ⌝ }
 {
     if digits.len() == 0 {

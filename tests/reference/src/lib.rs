@@ -13,6 +13,7 @@ pub mod meaning;
 pub mod plan;
 pub mod properties;
 pub mod random;
+pub mod reading;
 pub mod rewrite;
 pub mod run;
 pub mod selfcheck;

@@ -1,7 +1,8 @@
-//! The tests that the program selfcheck and `cargo test` run: the folders of tests/cases here, beside the worked examples and
+//! The tests that the program selfcheck and `cargo test` run: the folders of tests/cases and tests/readings here, beside the worked examples and
 //! the properties of random inputs.
 
 use crate::answer::answer;
+use crate::reading::reading;
 use std::path::{Path, PathBuf};
 
 /// A test's name, and what was seen or what went wrong.
@@ -12,23 +13,41 @@ pub fn case_folder() -> PathBuf {
     Path::new(env!("CARGO_MANIFEST_DIR")).join("../cases")
 }
 
+/// The folder tests/readings beside this package.
+pub fn reading_folder() -> PathBuf {
+    Path::new(env!("CARGO_MANIFEST_DIR")).join("../readings")
+}
+
 /// One test a folder: `answer` prints its expected.txt. A missing file counts as empty.
 pub fn cases(folder: &Path) -> Vec<Outcome> {
+    folders(folder, "case", "expected.txt", |path| {
+        let file = |name: &str| std::fs::read(path.join(name)).unwrap_or_default();
+        answer(&file("sheet.txt"), &file("book.txt"), &file("steps.txt"))
+    })
+}
+
+/// One test a folder: what is read of its texts is what its file `expected` says.
+pub fn readings(folder: &Path) -> Vec<Outcome> {
+    folders(folder, "reading", "expected", |path| {
+        let file = |name: &str| std::fs::read(path.join(name)).ok();
+        reading(file("query.txt").as_deref(), file("database.txt").as_deref(), file("step.txt").as_deref())
+    })
+}
+
+fn folders(folder: &Path, kind: &str, expected: &str, printed: impl Fn(&Path) -> Vec<u8>) -> Vec<Outcome> {
     let Ok(entries) = std::fs::read_dir(folder) else {
         return vec![(folder.display().to_string(), Err("no such folder".to_string()))];
     };
     let mut folders: Vec<PathBuf> = entries.flatten().map(|entry| entry.path()).filter(|path| path.is_dir()).collect();
     folders.sort();
     let outcome = |path: &PathBuf| {
-        let file = |name: &str| std::fs::read(path.join(name)).unwrap_or_default();
-        let printed = answer(&file("sheet.txt"), &file("book.txt"), &file("steps.txt"));
-        let expected = file("expected.txt");
+        let (printed, expected) = (printed(path), std::fs::read(path.join(expected)).unwrap_or_default());
         let result = if printed == expected {
             Ok(String::new())
         } else {
             Err(format!("expected\n{}printed\n{}", shown(&expected), shown(&printed)))
         };
-        (format!("case {}", path.file_name().unwrap_or_default().to_string_lossy()), result)
+        (format!("{kind} {}", path.file_name().unwrap_or_default().to_string_lossy()), result)
     };
     folders.iter().map(outcome).collect()
 }

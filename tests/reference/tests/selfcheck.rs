@@ -2,11 +2,18 @@
 
 use reference::examples::examples;
 use reference::properties::{properties, Coverage};
-use reference::selfcheck::{case_folder, cases, report};
+use reference::selfcheck::{case_folder, cases, reading_folder, readings, report};
 
 #[test]
 fn every_case_is_answered() {
     let outcomes = cases(&case_folder());
+    assert!(!outcomes.is_empty());
+    assert_eq!(report(&outcomes).1, 0);
+}
+
+#[test]
+fn every_reading_is_read() {
+    let outcomes = readings(&reading_folder());
     assert!(!outcomes.is_empty());
     assert_eq!(report(&outcomes).1, 0);
 }

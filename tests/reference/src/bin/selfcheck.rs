@@ -2,7 +2,7 @@
 
 use reference::examples::examples;
 use reference::properties::{properties, Coverage};
-use reference::selfcheck::{case_folder, cases, report};
+use reference::selfcheck::{case_folder, cases, reading_folder, readings, report};
 use std::process::ExitCode;
 
 const SEED: u64 = 1;
@@ -21,9 +21,10 @@ fn main() -> ExitCode {
     };
     let mut coverage = Coverage::default();
     let folders = cases(&case_folder());
+    let read = readings(&reading_folder());
     let worked = examples();
-    println!("{} cases, {} examples, {count} seeds from {seed}", folders.len(), worked.len());
-    let mut outcomes = [folders, worked, properties(seed, count, &mut coverage)].concat();
+    println!("{} cases, {} readings, {} examples, {count} seeds from {seed}", folders.len(), read.len(), worked.len());
+    let mut outcomes = [folders, read, worked, properties(seed, count, &mut coverage)].concat();
     // Fewer inputs may miss a kind or a number.
     if count >= COUNT {
         outcomes.push(coverage.outcome());

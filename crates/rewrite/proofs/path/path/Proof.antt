@@ -3,28 +3,24 @@ use borrow.Author.Needs.{needs}
 use native.Mathlib.Omega.{arith}
 use Prim.Native.Nat.{ℕ, _≤_, _<_, _-_, _+_}
 use mathlib.Core.Path.{_≡_, ap, ap₂, _∙_}
-use Rattle.query.specs.declared.Node.{Node}
 use Rattle.rewrite.specs.Places.{startAt, fixNumber}
 use Rattle.rewrite.specs.Path.{gathered}
-use Rattle.rewrite.proofs.AlongPath.{loop-gathers, loop-line}
 use Rattle.rewrite.proofs.path.path.Statement.{statement}
 use Rattle.rewrite.proofs.path.path.Tie as tie
 
 gather-requires : tie.Need-gather-requires
 gather-requires c κs =
-    let s = c .before .before .before .before in
-    let at = s .pre .at in
-    (omega (arith, at .low (c .before .before2 .result)), omega arith, omega arith, at .low)
+    let low = c .before .before .before .before .pre .2 in
+    (omega (arith, low (c .before .before2 .result)), omega arith, omega arith, low)
 
 returns : tie.Need-returns
-returns c G C x l =
+returns c =
     let b = c .before .before in
     let f = b .before in
     let a = f .before .before .args in
     c .gather .ensures
     ∙ ap₂ (λ (v k : ℕ). gathered (a .query) (a .t2) v (startAt (a .t2) k) (a .fix - startAt (a .t2) k))
-    (f .fix-number .ensures ∙ ap fixNumber (f .before .node-at .ensures ∙ loop-line l)) (b .before2 .ensures)
-    ∙ loop-gathers l
+    (f .fix-number .ensures ∙ ap fixNumber (f .before .node-at .ensures)) (b .before2 .ensures)
 
 pub path-spec : {M : Type 1} → statement M
 path-spec =

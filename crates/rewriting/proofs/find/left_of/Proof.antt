@@ -1,0 +1,17 @@
+-- The place before the right operand.
+use borrow.Author.Needs.{needs}
+use native.Mathlib.Omega.{arith}
+use Prim.Native.Nat.{ℕ, _+_, _-_, _≤_, _<_}
+use mathlib.Core.Path.{_≡_, refl, ap, ap₂, sym, _∙_, subst}
+use mathlib.Core.Bool.{Bool, true, false, not, _&&_, _||_}
+use Rattle.rewrite.specs.Places.{startAt}
+use Rattle.rewriting.proofs.find.left_of.Statement.{statement}
+use Rattle.rewriting.proofs.find.left_of.Tie as tie
+
+returns : tie.Need-returns
+returns c =
+    let b = c .before .before in
+    c .before3 .ensures ∙ ap (λ (k : ℕ). startAt (b .before .args .t1) k - 1) (b .before2 .ensures)
+
+pub left-of-spec : {M : Type 1} → statement M
+left-of-spec = tie.close (tie.spec (λ c κs. search needs) (λ c. search needs) (λ c. search needs) (λ c κs. search needs) returns)

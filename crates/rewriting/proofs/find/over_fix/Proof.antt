@@ -1,0 +1,30 @@
+-- The line of the operand decides.
+use borrow.Author.Needs.{needs}
+use native.Mathlib.Omega.{arith}
+use Prim.Native.Nat.{ℕ, _+_, _-_, _≤_, _<_}
+use mathlib.Core.Path.{_≡_, refl, ap, ap₂, sym, _∙_, subst}
+use mathlib.Core.Bool.{Bool, true, false, not, _&&_, _||_}
+use Rattle.laws.specs.Lists.{if_then_else_}
+use Rattle.matching.specs.declared.Found.{Found}
+use Rattle.matching.specs.declared.Found.the-variants.{Nothing, FilterFix, FixJoin, JoinFix, FixExcept, DropFix, FixFix}
+use Rattle.matching.specs.Found.{isFix}
+use Rattle.rewriting.proofs.find.over_fix.Statement.{statement}
+use Rattle.rewriting.proofs.find.over_fix.Tie as tie
+
+abbrev pick : Found → Bool → Found
+pick m b = if b then m else Nothing
+
+returns : tie.Need-returns
+returns c =
+    let f = c .before in
+    let n = f .before in
+    ap (pick (n .before .args .found)) (sym (c .if1 .taken) ∙ f .is-fix .ensures ∙ ap isFix (n .node-at .ensures))
+
+returns-2 : tie.Need-returns-2
+returns-2 c =
+    let f = c .before in
+    let n = f .before in
+    ap (pick (n .before .args .found)) (sym (c .if1 .left) ∙ f .is-fix .ensures ∙ ap isFix (n .node-at .ensures))
+
+pub over-fix-spec : {M : Type 1} → statement M
+over-fix-spec = tie.close (tie.spec (λ c κs. search needs) (λ c κs. search needs) returns returns-2)

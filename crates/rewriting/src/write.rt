@@ -1,0 +1,110 @@
+// The sheet that a rule writes, and the step of a checked query: 12 to 15 in order.
+use super::conditions::closed;
+use super::conditions::is_found;
+use super::conditions::stable;
+use super::conditions::unused;
+use super::find::find;
+use database::Refusal;
+use database::Verdict;
+use matching::Found;
+use query::Facts;
+use query::Query;
+use rewrite::Rewritten;
+use rewrite::nodes::before;
+use rewrite::nodes::fix_number;
+use rewrite::nodes::node_at;
+use rewrite::splice::exchange;
+use rewrite::splice::merge;
+ghost use mathlib.Core.Path.{_≡_};
+ghost use Prim.Native.Nat.{_<_, _≤_};
+ghost use Rattle.database.specs.Refusals.{refused};
+ghost use Rattle.query.specs.Lines.{nodeLimit};
+ghost use Rattle.rewrite.specs.Places.{StartsLow};
+ghost use Rattle.rewrite.specs.Rewrite.{rewritten};
+ghost use Rattle.matching.specs.Found.{Fits, Placed, movedAt, mergedAt, writtenAt, replyTo, stepReply};
+
+// Kinds 1 to 5: step and fix move behind what follows them, up to the node's own line.
+fn moved(query: Query, facts: Facts, i: usize, fix: usize) -> Query
+    requires { ⌜ (i < query .count) × (fix ≤ i) × (query .count ≤ nodeLimit) × StartsLow facts ⌝ }
+    ensures { λ r. ⌜ r ≡ movedAt query facts i fix ⌝ }
+{
+    let step = facts.start[before(fix)];
+    exchange(query, step, fix + 1, i + 1)
+}
+
+// Kind 6.
+fn united(query: Query, facts: Facts, i: usize, left: usize, right: usize) -> Query
+    requires { ⌜ (i < query .count) × Fits facts i (Found.FixFix left right) × (query .count ≤ nodeLimit) × StartsLow facts ⌝ }
+    ensures { λ r. ⌜ r ≡ mergedAt query facts i left right ⌝ }
+{
+    let step = facts.start[before(left)];
+    let right_step = facts.start[before(right)];
+    let v = fix_number(node_at(query, left));
+    let u = fix_number(node_at(query, right));
+    merge(query, step, left, right_step, i, u, v)
+}
+
+// The sheet that the rule writes at the node of an index.
+fn written(query: Query, facts: Facts, i: usize, found: Found) -> Query
+    requires { ⌜ (i < query .count) × Fits facts i found × (query .count ≤ nodeLimit) × StartsLow facts ⌝ }
+    ensures { λ r. ⌜ r ≡ writtenAt query facts i found ⌝ }
+{
+    match found {
+        Found::Nothing => query,
+        Found::FilterFix(_, fix) => moved(query, facts, i, fix),
+        Found::FixJoin(fix, _) => moved(query, facts, i, fix),
+        Found::JoinFix(_, fix) => moved(query, facts, i, fix),
+        Found::FixExcept(fix, _) => moved(query, facts, i, fix),
+        Found::DropFix(_, fix) => moved(query, facts, i, fix),
+        Found::FixFix(left, right) => united(query, facts, i, left, right),
+    }
+}
+
+// "Refusals hand back the sheet as given."
+fn refuse(query: Query, refusal: Refusal) -> Rewritten
+    ensures { λ r. ⌜ r ≡ rewritten query (refused refusal) ⌝ }
+{
+    Rewritten {
+        query,
+        verdict: Verdict::Refused(refusal),
+    }
+}
+
+// "then 12 to 15 in order"
+fn apply(query: Query, facts: Facts, i: usize, found: Found) -> Rewritten
+    requires { ⌜ (i < query .count) × Fits facts i found × (query .count ≤ nodeLimit) × StartsLow facts ⌝ }
+    ensures { λ r. ⌜ r ≡ rewritten query (replyTo query facts i found) ⌝ }
+{
+    if !is_found(found) {
+        return refuse(query, Refusal::NoMatch);
+    }
+    if !stable(query, facts, found) {
+        return refuse(query, Refusal::Unstable);
+    }
+    if !unused(query, facts, found) {
+        return refuse(query, Refusal::Used);
+    }
+    if !closed(query, facts, found) {
+        return refuse(query, Refusal::OpenOperand);
+    }
+    Rewritten {
+        query: written(query, facts, i, found),
+        verdict: Verdict::Accepted,
+    }
+}
+
+// The step of a checked query, from what the check tells of its nodes.
+pub fn rewrite_checked(query: Query, facts: Facts, kind: u32, node: u32) -> Rewritten
+    requires { ⌜ Placed query facts ⌝ }
+    ensures { λ r. ⌜ r ≡ rewritten query (stepReply query facts kind node) ⌝ }
+{
+    let n = node as usize;
+    if n == 0 {
+        return refuse(query, Refusal::NoMatch);
+    }
+    if query.count < n {
+        return refuse(query, Refusal::NoMatch);
+    }
+    let i = n - 1;
+    apply(query, facts, i, find(query, facts, kind, i))
+}

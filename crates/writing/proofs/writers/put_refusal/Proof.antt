@@ -1,0 +1,18 @@
+-- `put_refusal` meets its contract.
+use borrow.Author.Needs.{needs}
+use Rattle.text.specs.Numbers.{bytes}
+use Rattle.text.specs.Texts.{refusalText}
+use Rattle.writing.proofs.Puts.{puts-as}
+use Rattle.writing.proofs.writers.put_refusal.Statement.{statement}
+use Rattle.writing.proofs.writers.put_refusal.Tie as tie
+
+returns : tie.Need-returns
+unfolding refusalText bytes
+returns c =
+    let place = c .before .before .before .before .before in
+    puts-as (rw (place .refusal-place .ensures, place .before .refusal-number .ensures)) (c .before .before .put-two .ensures)
+
+pub put-refusal-spec : {M : Type 1} → statement M
+put-refusal-spec =
+    tie.close (tie.spec (λ c κs. search needs) (λ c. search needs) (λ c κs. search needs) (λ c. search needs) (λ c κs. search needs)
+    (λ c. search needs) returns)
