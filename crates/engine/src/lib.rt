@@ -6,4 +6,5 @@ mod stubs;
 pub use face::rewrite_each;
 pub use face::run;
 pub use face::run_rewritten;
+pub use stages::BYTES_TAKEN;
 pub use stages::answer;

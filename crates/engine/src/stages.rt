@@ -31,15 +31,16 @@ pub const ROWS_TAKEN: usize = 24;
 
 pub const LINES_TAKEN: u32 = 1000000;
 
-// a register a node and one more a fix
-const WORKSPACE: usize = 9264;
-
-const ANSWER: usize = 192;
+pub const STORED_TAKEN: usize = 384;
 
 pub const BYTES_TAKEN: usize = 8192;
 
-// 384 rows
-const STORE: usize = 3072;
+// A register a node and at most one more a node, and the rows of an answer: any run that is taken has room.
+const WORKSPACE: usize = (NODES_TAKEN + NODES_TAKEN) * (1 + COLUMNS * ROWS_TAKEN);
+
+const ANSWER: usize = COLUMNS * ROWS_TAKEN;
+
+const STORE: usize = COLUMNS * STORED_TAKEN;
 
 fn cause(verdict: Verdict) -> Refusal
     ensures { λ r. ⌜ r ≡ causeOf verdict ⌝ }
