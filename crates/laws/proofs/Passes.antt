@@ -1,5 +1,5 @@
 -- Loops over a list: an array filled from its start, faults gathered from its start, and a search to its end.
-use mathlib.Core.Path.{_≡_, refl, ap, sym, _∙_}
+use mathlib.Core.Path.{_≡_, refl, ap, ap₂, sym, _∙_}
 use mathlib.Core.Bool.{Bool, true, false, _||_, _&&_}
 use mathlib.Core.List.{List, [], _∷_, _++_, map, append-assoc, append-nil, map-append}
 use Prim.Native.Nat.{ℕ, zero, suc, _+_, _-_, _≤_, _<_}
@@ -8,8 +8,8 @@ use native.Mathlib.Numerals.{add-one}
 use native.Mathlib.Nat.{not-suc-le-zero}
 use native.Mathlib.Decide.{decLt}
 use lib.ListN.{length, getD, set, take, drop, replicate, length-append, length-map, length-replicate, getD-replicate, List·getD-append, List·getD-map, List·getD-eq-default}
-use lib.Seq.{set-at, getD-append-add, take-suc, drop-cons, split-at, length-take-le, getD-take}
-use Rattle.laws.specs.Lists.{if_then_else_, every, any, sift}
+use lib.Seq.{set-at, getD-append-add, take-suc, drop-cons, length-take-le, getD-take}
+use Rattle.laws.specs.Lists.{if_then_else_, every, any, sift, all}
 use Rattle.laws.proofs.Tests.{and-true, and-true-left, and-true-right, or-true-left, or-true-right}
 
 -- an array of n entries that has been filled from its start: the rest holds d
@@ -72,12 +72,6 @@ module _ {A B : Type 0} (f : List A → A → List B) (l : List A) (i : ℕ) (d 
       ap (λ (k : ℕ). walk f [] (take k l)) (add-one i) ∙ ap (walk f []) (take-suc l i d h) ∙ walk-append f [] (take i l) (getD l i d ∷ [])
       ∙ ap (λ (r : List B). walk f [] (take i l) ++ r) (walk-one f (take i l) (getD l i d))
 
-  -- what the rest gives comes behind
-  pub walk-split : (r : List B) × (walk f [] l ≡ walk f [] (take i l) ++ (f (take i l) (getD l i d) ++ r))
-  unfolding walk
-  walk-split =
-      (walk f (take i l ++ (getD l i d ∷ [])) (drop (suc i) l), ap (walk f []) (split-at l i d h) ∙ walk-append f [] (take i l) (getD l i d ∷ drop (suc i) l))
-
 -- a search among the first elements
 module _ {A : Type 0} (p : A → Bool) where
   pub any-append : (l m : List A) → any p (l ++ m) ≡ any p l || any p m
@@ -111,6 +105,13 @@ module _ {A : Type 0} (p : A → Bool) where
       by-test : (b : Bool) → every p (sift q l) ≡ true → every p (if b then a ∷ sift q l else sift q l) ≡ true
       by-test true f = rw (and-true-left (p a) (every p l) e) f
       by-test false f = f
+
+  -- tests that agree where a third passes
+  pub every-same : (q r : A → Bool) (l : List A) → every r l ≡ true → ((a : A) → r a ≡ true → p a ≡ q a) → every p l ≡ every q l
+  unfolding every
+  every-same q r [] e f = refl
+  every-same q r (a ∷ l) e f =
+      ap₂ (λ (s t : Bool). s && t) (f a (and-true-left (r a) (every r l) e)) (every-same q r l (and-true-right (r a) (every r l) e) f)
 
   module _ (d : A) where
     pub every-at : (l : List A) → ((i : ℕ) → i < length l → p (getD l i d) ≡ true) → every p l ≡ true
@@ -172,3 +173,9 @@ module _ {A B : Type 0} (n : ℕ) (d : B) (f : A → B) (l : List A) (i : ℕ) w
       filled-more n d (map f (take i l)) v i (filledTo-length (omega arith)) k
       ∙ ap (filled n d)
       (ap (λ (w : B). map f (take i l) ++ (w ∷ [])) e ∙ sym (map-append f (take i l) (getD l i x ∷ [])) ∙ ap (map f) (sym (take-suc l i x h) ∙ ap (λ (k : ℕ). take k l) (sym (add-one i))))
+
+-- tests that agree below n
+pub all-same : (p q : ℕ → Bool) (n : ℕ) → ((c : ℕ) → c < n → p c ≡ q c) → all p n ≡ all q n
+unfolding all
+all-same p q zero f = refl
+all-same p q (suc n) f = ap₂ (λ (s t : Bool). s && t) (all-same p q n (λ c h. f c (omega arith))) (f n (omega arith))

@@ -5,10 +5,10 @@ use database::Verdict;
 use relation::Columns;
 
 pub mod forms; // forms.rt: the form of a query as a value (2, 1)
-mod nodes; // nodes.rt: the line at an index and its operands
-mod shape; // shape.rt: where nodes start (3)
-mod free; // free.rt: the free variables of each node
-mod first_pass; // first_pass.rt: 4 to 8
+pub mod nodes; // nodes.rt: the line at an index and its operands
+pub mod shape; // shape.rt: where nodes start (3)
+pub mod free; // free.rt: the free variables of each node
+pub mod first_pass; // first_pass.rt: 4 to 8
 
 pub use free::none_in;
 pub use nodes::preceding;
@@ -60,13 +60,13 @@ pub struct CheckedQuery {
 }
 
 // Where a line's node starts, by the nodes before it, or that an operand is missing.
-enum Begin {
+pub enum Begin {
     At(usize),
     Missing,
 }
 
 // What the shape of a query replies: the starts of its nodes, in node order; zeros beside a refusal.
-struct CheckedShape {
+pub struct CheckedShape {
     pub verdict: Verdict,
     pub start: [usize; NODES],
 }

@@ -1,0 +1,3 @@
+pub mod ColumnNodes
+pub mod FaultNodes
+pub mod StageReplies

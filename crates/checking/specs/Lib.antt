@@ -1,0 +1,2 @@
+pub mod NodeColumns
+pub mod CheckStages

@@ -1,0 +1,101 @@
+// Document 01's "Checking": 11 for the database; 2, then 1, 3, 4 to 8, and 9 and 10 for the query; what it tells of each node of a query that it accepts.
+use super::node_columns::column_sets;
+use super::second_pass::second_pass;
+use database::Database;
+use database::Refusal;
+use database::Verdict;
+use database::check_database;
+use query::CheckedQuery;
+use query::Facts;
+use query::NODES;
+use query::Query;
+use query::first_pass::first_of;
+use query::first_pass::first_pass;
+use query::forms::check_form;
+use query::free::free_sets;
+use query::free::no_variables;
+use query::shape::shape;
+use relation::no_columns;
+ghost use mathlib.Core.Path.{_≡_};
+ghost use Prim.Native.Nat.{_≤_, min};
+ghost use Rattle.algebra.specs.Columns.{Schema};
+ghost use Rattle.relation.specs.Rows.{columns};
+ghost use Rattle.database.specs.Stored.{schema};
+ghost use Rattle.database.specs.Refusals.{refused};
+ghost use Rattle.query.specs.Lines.{nodeLimit};
+ghost use Rattle.query.specs.Check.{checkQuery, checkOver};
+ghost use Rattle.query.specs.Facts.{checkedValue};
+ghost use Rattle.query.specs.Shape.{Shaped, Formed};
+ghost use Rattle.checking.specs.CheckStages.{checkTerm};
+
+// A refusal, with blank facts.
+fn refusal(refusal: Refusal) -> CheckedQuery
+    ensures { λ r. ⌜ ((G : Schema) → G .width ≡ columns → r ≡ checkedValue G (refused refusal)) ⌝ }
+{
+    let none = no_variables();
+    let blank = no_columns();
+    CheckedQuery {
+        verdict: Verdict::Refused(refusal),
+        facts: Facts {
+            start: [0; NODES],
+            free: [none; NODES],
+            columns: [blank; NODES],
+        },
+    }
+}
+
+// "First pass, lowest node first, then lowest number: 4 to 8. Second pass, lowest node: 9 or 10." And the facts.
+fn check_passes(query: Query, database: Database, start: [usize; NODES]) -> CheckedQuery
+    requires { ⌜ Shaped query start × Formed query ⌝ }
+    ensures { λ r. ⌜ r ≡ checkedValue (schema columns database) (checkTerm query (schema columns database)) ⌝ }
+{
+    let free = free_sets(query, start);
+    let columns = column_sets(query, database, start);
+    let first = first_pass(query, start, free);
+    let second = second_pass(query, database, start, columns);
+    match first_of(first, second) {
+        Verdict::Refused(cause) => refusal(cause),
+        Verdict::Accepted => CheckedQuery {
+            verdict: Verdict::Accepted,
+            facts: Facts {
+                start,
+                free,
+                columns,
+            },
+        },
+    }
+}
+
+// 3, and what comes behind.
+fn check_shape(query: Query, database: Database) -> CheckedQuery
+    requires { ⌜ (1 ≤ query .count) × (query .count ≤ nodeLimit) × Formed query ⌝ }
+    ensures { λ r. ⌜ r ≡ checkedValue (schema columns database) (checkTerm query (schema columns database)) ⌝ }
+{
+    let shaped = shape(query);
+    let start = shaped.start;
+    let verdict = shaped.verdict;
+    match verdict {
+        Verdict::Refused(cause) => refusal(cause),
+        Verdict::Accepted => check_passes(query, database, start),
+    }
+}
+
+// The check of a query over a database's columns. No node count over `limit` is taken.
+pub fn check_query(query: Query, database: Database, limit: usize) -> CheckedQuery
+    ensures { λ r. ⌜ r ≡ checkedValue (schema columns database) (checkQuery (min limit nodeLimit) query (schema columns database)) ⌝ }
+{
+    match check_form(query, limit) {
+        Verdict::Refused(cause) => refusal(cause),
+        Verdict::Accepted => check_shape(query, database),
+    }
+}
+
+// "A sheet is checked over a book if neither gets a number from 1 to 11": 11 first, then the check of the query.
+pub fn check(query: Query, database: Database, store: &[u32], limit: usize) -> CheckedQuery
+    ensures { λ r. ⌜ r ≡ checkedValue (schema columns database) (checkOver columns (min limit nodeLimit) query database (now (store .entry))) ⌝ }
+{
+    match check_database(database, store) {
+        Verdict::Refused(cause) => refusal(cause),
+        Verdict::Accepted => check_query(query, database, limit),
+    }
+}
