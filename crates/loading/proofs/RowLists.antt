@@ -2,21 +2,19 @@
 use mathlib.Core.Path.{_≡_, refl, ap, sym, _∙_}
 use mathlib.Core.Bool.{Bool, true, false, _&&_, _||_, and-false}
 use mathlib.Core.Option.{Option, some, none}
-use mathlib.Core.List.{List, [], _∷_, _++_}
-use Prim.Native.Nat.{ℕ, zero, suc, _+_, _-_, _≤_, _<_}
+use mathlib.Core.List.{List, [], _∷_}
+use Prim.Native.Nat.{ℕ, _+_, _-_, _≤_, _<_}
 use native.Mathlib.Omega.{arith}
-use native.Mathlib.Numerals.{add-one}
-use lib.Dec.{eqb, leb, ltb}
-use lib.ListN.{length, take, drop, getD, set, replicate, length-take, drop-of-length-le}
+use lib.Dec.{leb, ltb}
+use lib.ListN.{length, drop, getD, set, length-take, drop-of-length-le}
 use lib.Seq.{getD-take}
-use borrow.Author.Tests.{le-leb, lt-leb, leb-true, leb-false, lt-ltb, le-ltb, ltb-true, ltb-false, eqb-true, eq-eqb, ne-eqb}
+use borrow.Author.Tests.{le-leb, lt-leb, leb-true, leb-false, lt-ltb, le-ltb, ltb-true, ltb-false, eq-eqb, ne-eqb}
 use Rattle.laws.specs.Lists.{if_then_else_, every, any, member}
-use Rattle.laws.proofs.Tests.{true-false, and-true-left, and-true-right}
-use Rattle.laws.proofs.Options.{none-some}
+use Rattle.laws.proofs.Tests.{and-true-left, and-true-right}
 use Rattle.laws.proofs.Readers.{drop-next}
 use Rattle.loading.specs.declared.list_reader.Numbers.{Numbers}
-use Rattle.text.specs.Lines.{ascending, inRange, filled, rowOf, ifEmpty}
-use Rattle.loading.specs.NumberArrays.{numbersOf, listed, few, orEmpty}
+use Rattle.text.specs.Lines.{ascending, inRange, filled}
+use Rattle.loading.specs.NumberArrays.{listed, few, orEmpty}
 
 -- the numbers of an array from an index on
 module _ (ns : Numbers) (k : ℕ) where

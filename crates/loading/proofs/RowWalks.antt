@@ -11,7 +11,7 @@ use borrow.Author.Tests.{ne-eqb}
 use Rattle.relation.specs.declared.Row.{Row}
 use Rattle.relation.specs.Rows.{Rows, columns, entries}
 use Rattle.database.specs.declared.Refusal.the-variants.{DatabaseForm}
-use Rattle.database.specs.Refusals.{Reply, refused, accepted}
+use Rattle.database.specs.Refusals.{Reply, refused}
 use Rattle.database.proofs.Replies.{accepted-same}
 use Rattle.text.specs.declared.line_reader.Cursor.{Cursor}
 use Rattle.text.specs.Lines.{Rest, due, rowLine}

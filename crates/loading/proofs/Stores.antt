@@ -1,17 +1,16 @@
 -- Entries put in the place of others from a place of a store on, by a walk that stores or doesn't.
 use mathlib.Core.Path.{_≡_, refl, ap, ap₂, sym, _∙_}
 use mathlib.Core.Bool.{Bool, true, false}
-use mathlib.Core.List.{List, [], _∷_, _++_, append-assoc}
+use mathlib.Core.List.{List, [], _++_, append-assoc}
 use Prim.Native.Nat.{ℕ, _+_, _-_, _≤_}
 use native.Mathlib.Omega.{arith}
 use lib.ListN.{length, take, drop, length-append, length-drop, take-append-drop}
 use lib.Seq.{length-take-le, take-append-add, take-append-seam, drop-append-add, drop-append-seam, drop-drop}
 use borrow.Rule.Slice.PartMut.{putMid, same-len-mid}
-use Rattle.laws.proofs.Tests.{true-false}
 use Rattle.database.specs.declared.Refusal.{Refusal}
 use Rattle.database.specs.Refusals.{Reply, refused, accepted, _>>=_}
 use Rattle.database.proofs.Replies.{accepted-refused, accepted-then}
-use Rattle.loading.specs.Loading.{stores, readEntries, Room, MayStore}
+use Rattle.loading.specs.Loading.{stores, readEntries, MayStore}
 
 module _ {A : Type 0} (at : ℕ) (xs ys l : List A) (room : at + length xs ≤ length l) where
   abbrev put : List A

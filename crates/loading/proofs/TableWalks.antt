@@ -1,14 +1,13 @@
 -- Reading a table line by line, and a walk over tables.
-use mathlib.Core.Path.{_≡_, refl, ap, sym, _∙_, subst}
-use mathlib.Core.Bool.{Bool, true, false, _&&_}
+use mathlib.Core.Path.{_≡_, ap, sym, _∙_, subst}
+use mathlib.Core.Bool.{Bool}
 use mathlib.Core.Option.{Option, some, none}
-use mathlib.Core.List.{List, [], _∷_, _++_, map, flatMap}
+use mathlib.Core.List.{List, [], _∷_, _++_, map}
 use Prim.Native.Nat.{ℕ, _+_, _-_, _*_, _≤_, _<_}
 use native.Mathlib.Omega.{arith}
 use lib.Dec.{leb}
 use lib.ListN.{length, set, replicate, length-append}
 use borrow.Author.Tests.{leb-true}
-use Rattle.laws.specs.Lists.{member}
 use Rattle.laws.proofs.Tests.{and-true}
 use Rattle.laws.proofs.Readers.{filled-more}
 use Rattle.laws.proofs.TextLists.{flatMap-append}
@@ -24,7 +23,7 @@ use Rattle.database.specs.Refusals.{Reply, refused, accepted, _>>=_}
 use Rattle.database.proofs.Replies.{accepted-same}
 use Rattle.text.specs.declared.line_reader.Cursor.{Cursor}
 use Rattle.text.specs.Numbers.{bytes}
-use Rattle.text.specs.Lines.{Rest, due, many, colsLine, countLine, inRange, ifOne}
+use Rattle.text.specs.Lines.{Rest, due, many, colsLine, countLine, ifOne}
 use Rattle.text.specs.Readings.{numbersBehind}
 use Rattle.text.specs.Texts.{Table, readRows, readTable, databaseValue, tableEntries}
 use Rattle.text.specs.Cursors.{restAt, Placed, dueLine, countForm}
@@ -38,7 +37,6 @@ use Rattle.text.proofs.ReaderLawsDue.{dueReply, due-reply, count-form}
 use Rattle.loading.specs.declared.table_reader.Walked.{Walked}
 use Rattle.loading.specs.declared.table_reader.Walked.the-variants.{Next, Bad}
 use Rattle.loading.specs.declared.table_reader.ReadTable.{ReadTable}
-use Rattle.loading.specs.declared.table_reader.ReadTables.{ReadTables}
 use Rattle.loading.specs.Loading.{stores, readEntries, MayStore, Passed, Walks, rowEntries, tableStored, tablesStored, colsSet, withTable, GoodTable, GoodTables}
 use Rattle.loading.proofs.RowLists.{columns-few}
 use Rattle.loading.proofs.Stores.{may-first, stores-then}

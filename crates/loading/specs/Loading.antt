@@ -2,7 +2,7 @@
 -- text is tested "before the store's length", and only then are rows stored.
 use mathlib.Core.Path.{_≡_}
 use mathlib.Core.Bool.{Bool, true, false}
-use mathlib.Core.List.{List, [], _∷_}
+use mathlib.Core.List.{List, []}
 use Prim.Native.Nat.{ℕ, _+_, _≤_}
 use lib.ListN.{length, set}
 use borrow.Rule.Slice.PartMut.{putMid}

@@ -1,7 +1,7 @@
 -- What the readers of the lines `cols=` and `row=` reply. w is the number of columns.
 use mathlib.Core.Bool.{Bool, true, false}
 use mathlib.Core.Option.{Option, some, none}
-use mathlib.Core.List.{List, [], _∷_}
+use mathlib.Core.List.{List, []}
 use Prim.Native.Nat.{ℕ}
 use lib.ListN.{replicate}
 use Rattle.relation.specs.declared.Row.{Row}

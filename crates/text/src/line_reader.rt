@@ -161,7 +161,7 @@ fn read_count(line: &[u8], key: &[u8], most: u32) -> ReadNumber
     }
 }
 
-// A due line with a count.
+// A due line with a count, for the readers of other crates too. They give it the cursor behind a line: the line number then fits.
 pub fn due_count(text: &[u8], c: Cursor, key: &[u8], most: u32) -> DueCount
     requires { ⌜ Placed c ⌝ }
     ensures { λ r. ⌜ r ≡ countReply (dueLine (countForm (now (key .entry)) most) (now (text .entry)) c) ⌝ }

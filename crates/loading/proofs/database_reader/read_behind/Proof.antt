@@ -1,10 +1,9 @@
 use borrow.Author.Needs.{needs}
 use Prim.Native.Nat.{ℕ}
-use mathlib.Core.Path.{_≡_, ap, sym, _∙_, subst}
+use mathlib.Core.Path.{_≡_, _∙_, subst}
 use mathlib.Core.List.{List}
 use denote.Ref.{now}
 use Rattle.database.specs.declared.Refusal.the-variants.{DatabaseForm}
-use Rattle.database.specs.Refusals.{refused}
 use Rattle.loading.specs.declared.table_reader.Walked.{Walked}
 use Rattle.loading.specs.declared.table_reader.ReadTables.{ReadTables}
 use Rattle.loading.specs.Loading.{Walks, GoodTables}

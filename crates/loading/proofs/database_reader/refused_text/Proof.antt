@@ -1,5 +1,5 @@
 use borrow.Author.Needs.{needs}
-use mathlib.Core.Path.{_≡_, refl, ap, sym, _∙_}
+use mathlib.Core.Path.{ap}
 use mathlib.Core.List.{flatMap}
 use Rattle.database.specs.declared.Verdict.the-variants.{Refused}
 use Rattle.loading.proofs.database_reader.refused_text.Statement.{statement}

@@ -2,13 +2,13 @@
 use borrow.Author.Needs.{needs}
 use native.Mathlib.Omega.{arith}
 use Prim.Native.Nat.{ℕ, _-_, _≤_}
-use mathlib.Core.Path.{_≡_, ap, sym, _∙_}
-use mathlib.Core.Option.{Option, some, none}
+use mathlib.Core.Path.{ap, sym, _∙_}
+use mathlib.Core.Option.{Option}
 use mathlib.Core.List.{List}
 use lib.ListN.{length, take, drop}
 use denote.Ref.{now}
 use Rattle.relation.specs.Rows.{columns}
-use Rattle.text.specs.Numbers.{comma, number, numbers}
+use Rattle.text.specs.Numbers.{comma, number}
 use Rattle.text.proofs.ReaderLawsLines.{found-le}
 use Rattle.text.proofs.ReaderLawsForms.{number-none, number-some}
 use Rattle.loading.specs.declared.list_reader.Numbers.{Numbers}

@@ -3,13 +3,9 @@ use borrow.Author.Needs.{needs}
 use native.Mathlib.Omega.{arith}
 use Prim.Native.Nat.{ℕ, _≤_, _-_, _+_}
 use mathlib.Core.Path.{_≡_, refl, ap, sym, _∙_}
-use mathlib.Core.Bool.{_&&_}
 use mathlib.Core.List.{List, _∷_}
-use lib.Dec.{ltb}
 use lib.ListN.{length, drop}
-use Rattle.laws.specs.Lists.{every}
 use Rattle.relation.specs.Rows.{columns}
-use Rattle.text.specs.Lines.{ascending}
 use Rattle.loading.specs.declared.list_reader.Numbers.{Numbers}
 use Rattle.loading.specs.NumberArrays.{listed}
 use Rattle.loading.proofs.RowLists.{listed-next, listed-end, within, within-more, within-low, within-high, within-none, within-columns}

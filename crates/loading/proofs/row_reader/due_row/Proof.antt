@@ -1,17 +1,14 @@
 use borrow.Author.Needs.{needs}
 use borrow.Author.Tests.{not-true, not-false}
-use native.Mathlib.Omega.{arith}
 use Prim.Native.Nat.{ℕ, _-_}
-use mathlib.Core.Path.{_≡_, ap, sym, _∙_}
+use mathlib.Core.Path.{ap, sym, _∙_}
 use mathlib.Core.Option.{Option, some, none}
 use mathlib.Core.List.{List}
 use lib.ListN.{take, drop}
 use denote.Ref.{now}
-use Rattle.laws.specs.Options.{mapped}
 use Rattle.relation.specs.Rows.{columns}
 use Rattle.text.specs.declared.line_reader.Cursor.{Cursor}
 use Rattle.text.specs.Lines.{rowLine}
-use Rattle.text.specs.Cursors.{behindLine, dueLine}
 use Rattle.text.proofs.ReaderLawsDue.{due-missing, due-replied}
 use Rattle.loading.specs.NumberArrays.{listed}
 use Rattle.loading.specs.RowReading.{aboveOf, rowDue}

@@ -1,15 +1,13 @@
 -- A turn of the loop is one row more.
 use borrow.Author.Needs.{needs}
 use native.Mathlib.Omega.{arith}
-use Prim.Native.Nat.{ℕ, _+_, _-_, _≤_, _<_}
-use mathlib.Core.Path.{_≡_, ap, sym, _∙_}
-use mathlib.Core.Bool.{Bool, true}
-use mathlib.Core.Option.{Option, some, none}
+use Prim.Native.Nat.{ℕ, _-_, _<_}
+use mathlib.Core.Path.{_≡_}
+use mathlib.Core.Option.{Option}
 use mathlib.Core.List.{List}
 use lib.Dec.{eqb}
 use lib.ListN.{length}
 use denote.Ref.{now}
-use Rattle.relation.specs.declared.Row.{Row}
 use Rattle.relation.specs.Rows.{columns}
 use Rattle.text.specs.declared.line_reader.Cursor.{Cursor}
 use Rattle.text.specs.Lines.{rowLine}
