@@ -77,10 +77,10 @@ module _ {before after : List ℕ} {w : Written} where
       let cols : ran .columns ≡ a .columns = ap (λ (y : Ran). y .columns) is ∙ ap (λ y. ranOf columns y .columns) accepts in
       let there : slice ≡ entries (a .rows) ++ drop (length (entries (a .rows))) lent = holds ∙ ap (λ y. answerAfter y lent) accepts in
       let found : rowsOf columns rows slice ≡ a .rows =
-          ap (λ n. rowsOf columns n slice) (sym count) ∙ ap (rowsOf columns (length (a .rows))) there ∙ rowsOf-entries columns (a .rows) _ (sized a accepts) in
+      ap (λ n. rowsOf columns n slice) (sym count) ∙ ap (rowsOf columns (length (a .rows))) there ∙ rowsOf-entries columns (a .rows) _ (sized a accepts) in
       let text : answerText columns (ran .columns) (rowsOf columns rows slice) lines ≡ replyText (accepted a) =
-          ap (λ y. answerText columns y (rowsOf columns rows slice) lines) cols ∙ ap (λ y. answerText columns (a .columns) y lines) found
-          ∙ ap (answerText columns (a .columns) (a .rows)) (sym counted) in
+      ap (λ y. answerText columns y (rowsOf columns rows slice) lines) cols ∙ ap (λ y. answerText columns (a .columns) y lines) found
+      ∙ ap (answerText columns (a .columns) (a .rows)) (sym counted) in
       writes-as (sym e ∙ accepts) (record { reply = h .0 ∙ ap (λ y. writeReply y before) text; slice = h .1 ∙ ap (λ y. sliceAfter y before) text })
 
 -- "8,192 bytes a file (else 17)"

@@ -43,7 +43,7 @@ module _ (w limit : ℕ) (q : Query) (d : Database) (store : List ℕ) where
   few-nodes t e =
       let c = check-over-iff w limit q d store t .0 e .1 in
       let long : size t ≡ length (take (q .count) (q .lines)) =
-          sym (size-lines t) ∙ ap length (sym (c .written)) ∙ length-map (take (q .count) (q .lines)) (λ (l : Line). l .node) in
+      sym (size-lines t) ∙ ap length (sym (c .written)) ∙ length-map (take (q .count) (q .lines)) (λ (l : Line). l .node) in
       omega (arith, c .in-range .1, length-take (q .count) (q .lines))
 
   space-enough : (L : ℕ) (t : Term) → checkOver w limit q d store ≡ accepted t → spaceFor w L t ≤ (limit + limit) * (1 + w * L)

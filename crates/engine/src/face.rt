@@ -55,7 +55,7 @@ pub fn rewrite_each(
     let mut held = query;
     let mut i: usize = 0;
     while i + 1 < steps.len() {
-        let next = stubs::rewrite(held, database, store, limit, steps[i], steps[i + 1]);
+        let next = rewriting::rewrite(held, database, store, limit, steps[i], steps[i + 1]);
         held = next.query;
         i += 2;
     }

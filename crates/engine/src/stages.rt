@@ -1,21 +1,21 @@
 // What the program `answer` prints for the bytes of its three files: "It takes 24 nodes (else 2), L = 24, 1,000,000 lines, 384 stored rows and
 // 8,192 bytes a file (else 17)."
-use checking::check;
-use loading::read_database;
-use super::stubs::rewrite;
 use super::stubs::run;
-use writing::write_answer;
+use checking::check;
 use database::Database;
 use database::Refusal;
 use database::Verdict;
+use loading::read_database;
 use machine::Outcome;
 use query::Query;
 use relation::COLUMNS;
 use rewrite::Rewritten;
+use rewriting::rewrite;
 use text::DueStep;
-use writing::Written;
 use text::due_step;
 use text::read_query;
+use writing::Written;
+use writing::write_answer;
 use writing::write_refusal;
 ghost use mathlib.Core.Path.{_≡_};
 ghost use lib.ListN.{length};

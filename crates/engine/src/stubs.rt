@@ -1,33 +1,14 @@
 // stubs
 use database::Database;
 use database::Refusal;
-use database::Verdict;
 use machine::Outcome;
 use machine::Ran;
 use query::Query;
-use rewrite::Rewritten;
 ghost use mathlib.Core.Path.{_≡_};
 ghost use Prim.Native.Nat.{min};
 ghost use Rattle.relation.specs.Rows.{columns};
 ghost use Rattle.query.specs.Lines.{nodeLimit};
-ghost use Rattle.rewrite.specs.Rewrite.{rewrite, rewritten};
 ghost use Rattle.machine.specs.Run.{runQuery, begin, ranOf, workspaceAfter, answerAfter};
-
-pub fn rewrite(
-    query: Query,
-    database: Database,
-    store: &[u32],
-    limit: usize,
-    kind: u32,
-    node: u32,
-) -> Rewritten
-    ensures { λ r. ⌜ r ≡ rewritten query (rewrite columns (min limit nodeLimit) query database (now (store .entry)) kind node) ⌝ }
-{
-    Rewritten {
-        query,
-        verdict: Verdict::Accepted,
-    }
-}
 
 pub fn run(
     query: Query,
@@ -50,4 +31,3 @@ pub fn run(
         columns: relation::no_columns(),
     }
 }
-

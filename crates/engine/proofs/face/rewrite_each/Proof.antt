@@ -27,11 +27,13 @@ loop-again c =
     let t = c .before .before .before .before in
     let l = t .before .loop in
     let s = t .before .before .before .before .args in
-    let h = t .loop-test .taken in
-    (omega arith, l .inv .1
-    ∙ steps-more columns (min (s .limit) nodeLimit) (s .database) (now (s .store)) (l .held) (now (s .steps)) (l .i) (t .loop-test .taken)
-    ∙ ap (λ (r : Rewritten). held columns (min (s .limit) nodeLimit) (r .query) (stepsOver (s .database) (now (s .store)) (drop (l .i + 2) (now (s .steps)))))
-    (sym (c .before .rewrite .ensures)))
+    let h = t .loop-test .taken in (
+      omega arith,
+      l .inv .1
+          ∙ steps-more columns (min (s .limit) nodeLimit) (s .database) (now (s .store)) (l .held) (now (s .steps)) (l .i) (t .loop-test .taken)
+          ∙ ap (λ (r : Rewritten). held columns (min (s .limit) nodeLimit) (r .query) (stepsOver (s .database) (now (s .store)) (drop (l .i + 2) (now (s .steps)))))
+          (sym (c .before .rewrite .ensures)),
+    )
 
 returns : tie.Need-returns Inv-loop μ-loop
 returns c =

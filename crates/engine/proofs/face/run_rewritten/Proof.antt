@@ -41,11 +41,15 @@ returns : tie.Need-returns
 returns c =
     let s = c .before .before .before .before .before .before .before .before .before .before .before .before .args in
     let r = c .before .before .before .before .run in
-    let e = ends-as (min (s .limit) nodeLimit) _ _ (s .database) (now (s .store)) (s .rows) (s .budget) (now (s .workspace)) (now (s .answer)) (c .before .before .before .before .before .before .before .rewrite-each .ensures) (r .ensures) in
-    (e .0, e .1, e .2, λ t checked.
-      rewrites-invisible columns (min (s .limit) nodeLimit) (s .query) (s .database) (now (s .store)) t checked (s .database) (now (s .store)) (same-columns columns (s .database))
-      (stepsOver (s .database) (now (s .store)) (now (s .steps))) (over-one columns (s .database) (now (s .store)) (now (s .steps)))
-      (s .rows) (s .budget) (now (s .workspace)) (now (s .answer)))
+    let e = ends-as (min (s .limit) nodeLimit) _ _ (s .database) (now (s .store)) (s .rows) (s .budget) (now (s .workspace)) (now (s .answer)) (c .before .before .before .before .before .before .before .rewrite-each .ensures) (r .ensures) in (
+      e .0,
+      e .1,
+      e .2,
+      λ t checked.
+          rewrites-invisible columns (min (s .limit) nodeLimit) (s .query) (s .database) (now (s .store)) t checked (s .database) (now (s .store)) (same-columns columns (s .database))
+          (stepsOver (s .database) (now (s .store)) (now (s .steps))) (over-one columns (s .database) (now (s .store)) (now (s .steps)))
+          (s .rows) (s .budget) (now (s .workspace)) (now (s .answer)),
+    )
 
 pub run-rewritten-spec : {M : Type 1} → statement M
 run-rewritten-spec = tie.close (tie.spec (λ c κs. search needs) (λ c κs. search needs) (λ c. search needs) (λ c. search needs) returns)

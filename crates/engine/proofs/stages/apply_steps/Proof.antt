@@ -55,7 +55,7 @@ loop-less c =
     let s = t .before .before .before .before .args in
     let g = c .before .before .before .before .before .kind .given in
     let on = due-on (s .database) (now (s .store)) (now (s .steps)) (s .query) (l .place) (l .held) (l .inv) (t .loop-test .taken) (g .0 .0) (g .0 .1 .0) (g .0 .1 .1 .0)
-        (λ n. sym (g .1) ∙ c .before .before .before .before .before .before .before .due-step .ensures n) in
+    (λ n. sym (g .1) ∙ c .before .before .before .before .before .before .before .due-step .ensures n) in
     let h = t .loop-test .taken in
     omega arith
 
