@@ -32,7 +32,7 @@ use Rattle.text.specs.Texts.{queryValue, databaseValue, tableEntries}
 use Rattle.rewrite.specs.Rewrite.{Step, held}
 use Rattle.machine.specs.Run.{Answer}
 use Rattle.engine.specs.Starred.{row, doors, reach, reachStep}
-use Rattle.engine.specs.Face.{Answers}
+use Rattle.engine.specs.Demands.{Answers}
 use Rattle.engine.proofs.RewritesInvisible.{OverColumns, rewrites-invisible}
 
 abbrev query : Query

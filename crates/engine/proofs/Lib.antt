@@ -6,3 +6,5 @@ pub mod StepLists
 pub mod Printed
 pub mod FewRows
 pub mod Roomy
+pub mod Ends
+pub mod LeftMeans

@@ -1,14 +1,13 @@
 -- A stage of `answer` prints its refusal, or what the stages behind it print.
 use mathlib.Core.Path.{_≡_, refl, ap, sym, _∙_, subst}
 use mathlib.Core.Bool.{Bool, true, false, _&&_}
-use mathlib.Core.List.{List, _++_}
+use mathlib.Core.List.{List}
 use Prim.Native.Nat.{ℕ, _≤_, _<_}
-use native.Mathlib.Omega.{arith}
 use lib.Dec.{leb}
-use lib.ListN.{length, drop}
+use lib.ListN.{length}
 use borrow.Author.Tests.{le-leb, lt-leb}
-use Rattle.laws.proofs.TextLists.{Each}
-use Rattle.relation.specs.Rows.{Row, columns, rowsOf, entries}
+use Rattle.relation.specs.declared.Columns.{Columns}
+use Rattle.relation.specs.Rows.{Rows, columns}
 use Rattle.database.specs.declared.Refusal.{Refusal}
 use Rattle.database.specs.declared.Refusal.the-variants.{ShortSlice}
 use Rattle.database.specs.declared.Verdict.{Verdict}
@@ -21,20 +20,10 @@ use Rattle.writing.specs.Replies.{writeReply, sliceAfter}
 use Rattle.machine.specs.declared.Outcome.{Outcome}
 use Rattle.machine.specs.declared.Outcome.the-variants as outcome
 use Rattle.machine.specs.declared.Ran.{Ran}
-use Rattle.machine.specs.Run.{Answer, ranOf, answerAfter}
-use Rattle.text.proofs.Entries.{rowsOf-entries}
+use Rattle.machine.specs.Run.{Answer, ranOf}
 use Rattle.engine.specs.Answer.{limits, replyText, answer}
 use Rattle.engine.specs.Stages.{causeOf, outcomeCause, answerBook, Writes}
-
--- how a run ended, by its outcome
-ran-refused : (w : ℕ) (x : Reply Answer) (r : Refusal) → ranOf w x .outcome ≡ outcome.Refused r → x ≡ refused r
-ran-refused w (refused s) r e = ap refused cc
-ran-refused w (accepted a) r e = let z : _≡_ {A = ℕ} 0 1 = cc in absurd (omega arith)
-
-ran-finished : (w : ℕ) (x : Reply Answer) (rows ran : ℕ) → ranOf w x .outcome ≡ outcome.Finished rows ran
-    → (a : Answer) × (x ≡ accepted a) × (length (a .rows) ≡ rows) × (a .ran ≡ ran)
-ran-finished w (refused s) rows ran e = let z : _≡_ {A = ℕ} 0 1 = cc in absurd (omega arith)
-ran-finished w (accepted a) rows ran e = (a, refl, cc, cc)
+use Rattle.engine.proofs.Ends.{Ended, ran-refused}
 
 module _ {before after : List ℕ} {w : Written} where
   -- a reply is printed
@@ -66,22 +55,16 @@ module _ {before after : List ℕ} {w : Written} where
       writes-refused (sym e ∙ ran-refused columns x r (sym (ap (λ (y : Ran). y .outcome) is) ∙ ended))
       (subst (λ (y : Refusal). (w ≡ writeReply (refusalText y) before) × (after ≡ sliceAfter (refusalText y) before)) (cause ∙ ap outcomeCause ended) h)
 
-  -- the run finishes: the answer's rows stand in the lent slice
-  pub run-ends : {x s : Reply Answer} → x ≡ s → (ran : Ran) → ran ≡ ranOf columns x → (rows lines : ℕ) → ran .outcome ≡ outcome.Finished rows lines
-      → (lent slice : List ℕ) → slice ≡ answerAfter x lent → ((a : Answer) → x ≡ accepted a → Each (λ (r : Row). length r ≡ columns) (a .rows))
-      → (w ≡ writeReply (answerText columns (ran .columns) (rowsOf columns rows slice) lines) before)
-      × (after ≡ sliceAfter (answerText columns (ran .columns) (rowsOf columns rows slice) lines) before)
+  -- the run finishes
+  pub run-ends : {x s : Reply Answer} → x ≡ s → (set : Columns) (rows : Rows) (lines : ℕ) → Ended columns x set rows lines
+      → (w ≡ writeReply (answerText columns set rows lines) before) × (after ≡ sliceAfter (answerText columns set rows lines) before)
       → Writes (replyText s) before w after
-  run-ends {x} e ran is rows lines ended lent slice holds sized h =
-      let (a, accepts, count, counted) = ran-finished columns x rows lines (sym (ap (λ (y : Ran). y .outcome) is) ∙ ended) in
-      let cols : ran .columns ≡ a .columns = ap (λ (y : Ran). y .columns) is ∙ ap (λ y. ranOf columns y .columns) accepts in
-      let there : slice ≡ entries (a .rows) ++ drop (length (entries (a .rows))) lent = holds ∙ ap (λ y. answerAfter y lent) accepts in
-      let found : rowsOf columns rows slice ≡ a .rows =
-      ap (λ n. rowsOf columns n slice) (sym count) ∙ ap (rowsOf columns (length (a .rows))) there ∙ rowsOf-entries columns (a .rows) _ (sized a accepts) in
-      let text : answerText columns (ran .columns) (rowsOf columns rows slice) lines ≡ replyText (accepted a) =
-      ap (λ y. answerText columns y (rowsOf columns rows slice) lines) cols ∙ ap (λ y. answerText columns (a .columns) y lines) found
-      ∙ ap (answerText columns (a .columns) (a .rows)) (sym counted) in
-      writes-as (sym e ∙ accepts) (record { reply = h .0 ∙ ap (λ y. writeReply y before) text; slice = h .1 ∙ ap (λ y. sliceAfter y before) text })
+  run-ends {x} e set rows lines ended h =
+      let a : Answer = ended .answer in
+      let text : answerText columns set rows lines ≡ replyText (accepted a) =
+          ap (λ y. answerText columns y rows lines) (ended .cols) ∙ ap (λ y. answerText columns (a .columns) y lines) (ended .found)
+          ∙ ap (answerText columns (a .columns) (a .rows)) (ended .counted) in
+      writes-as (sym e ∙ ended .accepts) (record { reply = h .0 ∙ ap (λ y. writeReply y before) text; slice = h .1 ∙ ap (λ y. sliceAfter y before) text })
 
 -- "8,192 bytes a file (else 17)"
 module _ (sheet book steps : List ℕ) where

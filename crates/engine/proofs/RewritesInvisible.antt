@@ -25,7 +25,7 @@ use Rattle.rewrite.specs.Rewrite.{Step, held}
 use Rattle.rewrite.proofs.Held.{Kept, kept-all}
 use Rattle.machine.specs.Run.{Answer, runQuery}
 use Rattle.engine.proofs.RunIsMeaning.{executed, run-is-meaning}
-use Rattle.engine.specs.Face.{Answers}
+use Rattle.engine.specs.Demands.{Answers}
 
 -- each step's book has the columns of the book d
 abbrev pub OverColumns : ℕ → Database → List Step → Type 0

@@ -23,7 +23,7 @@ use Rattle.query.proofs.CheckTests.{checked-narrow}
 use Rattle.query.proofs.CheckedOver.{check-over-iff}
 use Rattle.machine.specs.Run.{Answer, execute, spaceFor, begin, runQuery}
 use Rattle.machine.proofs.RunIsMeaning.{execute-shows}
-use Rattle.engine.specs.Face.{Answers}
+use Rattle.engine.specs.Demands.{Answers}
 
 module _ (w limit : ℕ) (q : Query) (d : Database) (store : List ℕ) (L budget : ℕ) (workspace answer : List ℕ) where
   -- a run that finishes began with a checked term and executed it

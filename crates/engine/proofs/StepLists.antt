@@ -26,7 +26,7 @@ use Rattle.text.specs.Replies.{stepDue}
 use Rattle.text.proofs.ReaderLawsDue.{dueReply, due-reply, due-read, due-missing}
 use Rattle.rewrite.specs.Rewrite.{rewrite, handedBack, held}
 use Rattle.engine.specs.Answer.{limits, applySteps}
-use Rattle.engine.specs.Face.{stepsOver}
+use Rattle.engine.specs.Demands.{stepsOver}
 
 -- a slice: kinds, each with its node behind it
 module _ (w limit : ℕ) (d : Database) (store : List ℕ) (q : Query) where

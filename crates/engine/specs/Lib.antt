@@ -1,4 +1,4 @@
 pub mod Answer
 pub mod Starred
 pub mod Stages
-pub mod Face
+pub mod Demands

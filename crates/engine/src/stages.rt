@@ -1,6 +1,5 @@
 // What the program `answer` prints for the bytes of its three files: "It takes 24 nodes (else 2), L = 24, 1,000,000 lines, 384 stored rows and
 // 8,192 bytes a file (else 17)."
-use super::stubs::run;
 use checking::check;
 use database::Database;
 use database::Refusal;
@@ -11,6 +10,7 @@ use query::Query;
 use relation::COLUMNS;
 use rewrite::Rewritten;
 use rewriting::rewrite;
+use run::run;
 use text::DueStep;
 use text::due_step;
 use text::read_query;

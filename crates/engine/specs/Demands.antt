@@ -1,4 +1,4 @@
--- What the engine's public functions promise beside their replies: demands 2 and 3.
+-- What demands 2 and 3 speak of: an answer that is a meaning, and a list of steps.
 use mathlib.Core.Path.{_≡_}
 use mathlib.Core.List.{List, [], _∷_}
 use Prim.Native.Nat.{ℕ}
@@ -8,10 +8,9 @@ use Rattle.relation.specs.Rows.{columnsOf}
 use Rattle.relation.proofs.Shows.{Shows}
 use Rattle.database.specs.declared.Database.{Database}
 use Rattle.database.specs.Stored.{schema}
-use Rattle.database.specs.Refusals.{Reply, accepted}
 use Rattle.query.specs.declared.Query.{Query}
-use Rattle.query.specs.Check.{checkOver, meaningOver}
-use Rattle.rewrite.specs.Rewrite.{Step}
+use Rattle.query.specs.Check.{meaningOver}
+use Rattle.rewrite.specs.Rewrite.{Step, held}
 use Rattle.machine.specs.Run.{Answer}
 
 -- "the answer's column set, row count and row entries are the meaning's, rows ascending, absent slots 0": what the term t means over the book
@@ -19,13 +18,12 @@ pub record Answers (w : ℕ) (d : Database) (store : List ℕ) (t : Term) (a : A
   pub columns : a .columns ≡ columnsOf w (cols (schema w d) noCols t)
   pub rows : Shows w (cols (schema w d) noCols t) (a .rows) (meaningOver w d store t)
 
--- "A run finishes if it ends without a refusal. Then the answer's column set, row count and row entries are the meaning's": those of the sheet q,
--- checked over the book
-abbrev pub IsMeaning : ℕ → ℕ → Query → Database → List ℕ → Reply Answer → Type 0
-IsMeaning w limit q d store reply = (t : Term) → checkOver w limit q d store ≡ accepted t → (a : Answer) → reply ≡ accepted a → Answers w d store t a
-
 -- a list of kinds and nodes, in turn; a kind without a node is no step
 unfoldable pub stepsOver : Database → List ℕ → List ℕ → List Step
 stepsOver d store [] = []
 stepsOver d store (k ∷ []) = []
 stepsOver d store (k ∷ (n ∷ l)) = record { database = d; store = store; kind = k; node = n } ∷ stepsOver d store l
+
+-- the query that such a list leaves: "After an accepted step the rule's sheet is held, after a refused one the same as before."
+abbrev pub leftBy : ℕ → ℕ → Query → Database → List ℕ → List ℕ → Query
+leftBy w limit q d store steps = held w limit q (stepsOver d store steps)

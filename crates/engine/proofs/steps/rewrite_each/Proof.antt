@@ -9,10 +9,10 @@ use Rattle.relation.specs.Rows.{columns}
 use Rattle.query.specs.Lines.{nodeLimit}
 use Rattle.rewrite.specs.declared.Rewritten.{Rewritten}
 use Rattle.rewrite.specs.Rewrite.{held}
-use Rattle.engine.specs.Face.{stepsOver}
+use Rattle.engine.specs.Demands.{stepsOver}
 use Rattle.engine.proofs.StepLists.{steps-none, steps-more}
-use Rattle.engine.proofs.face.rewrite_each.Statement.{statement}
-use Rattle.engine.proofs.face.rewrite_each.Tie as tie
+use Rattle.engine.proofs.steps.rewrite_each.Statement.{statement}
+use Rattle.engine.proofs.steps.rewrite_each.Tie as tie
 
 abbrev Inv-loop : tie.InvT-loop
 Inv-loop database store limit steps held₀ i₀ query i =

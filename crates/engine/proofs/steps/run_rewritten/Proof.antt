@@ -1,29 +1,22 @@
--- `run_rewritten` meets its contract; its last clause is `rewrites-invisible`, each step being over the one database.
+-- `run_rewritten` meets its contract: `run` of what `rewrite_each` leaves.
 use borrow.Author.Needs.{needs}
 use Prim.Native.Nat.{ℕ, min}
-use mathlib.Core.Path.{_≡_, refl, sym, subst}
-use mathlib.Core.List.{List, [], _∷_}
+use mathlib.Core.Path.{_≡_, sym, _∙_, subst}
+use mathlib.Core.List.{List}
 use denote.Ref.{now}
-use Rattle.relation.specs.Rows.{columns}
+use Rattle.relation.specs.declared.Columns.{Columns}
+use Rattle.relation.specs.Rows.{Rows, columns}
 use Rattle.database.specs.declared.Database.{Database}
-use Rattle.database.specs.Stored.{SameColumns}
 use Rattle.query.specs.declared.Query.{Query}
 use Rattle.query.specs.Lines.{nodeLimit}
 use Rattle.machine.specs.declared.Ran.{Ran}
 use Rattle.machine.specs.Run.{runQuery, begin, ranOf, workspaceAfter, answerAfter}
-use Rattle.engine.specs.Face.{stepsOver}
-use Rattle.engine.proofs.RewritesInvisible.{OverColumns, rewrites-invisible}
-use Rattle.engine.proofs.face.run_rewritten.Statement.{statement}
-use Rattle.engine.proofs.face.run_rewritten.Tie as tie
-
-same-columns : (w : ℕ) (d : Database) → SameColumns w d d
-same-columns w d = record { count = refl; columns = λ t h c. refl }
-
-over-one : (w : ℕ) (d : Database) (store l : List ℕ) → OverColumns w d (stepsOver d store l)
-unfolding stepsOver
-over-one w d store [] = tt
-over-one w d store (k ∷ []) = tt
-over-one w d store (k ∷ (n ∷ l)) = (same-columns w d, over-one w d store l)
+use Rattle.run.specs.Answered.{Means}
+use Rattle.engine.specs.Demands.{leftBy}
+use Rattle.engine.proofs.Ends.{run-ended}
+use Rattle.engine.proofs.LeftMeans.{left-means, means-as}
+use Rattle.engine.proofs.steps.run_rewritten.Statement.{statement}
+use Rattle.engine.proofs.steps.run_rewritten.Tie as tie
 
 -- what a run replies and leaves, of any query
 abbrev Ends : ℕ → Query → Database → List ℕ → ℕ → ℕ → List ℕ → List ℕ → Ran → List ℕ → List ℕ → Type 0
@@ -41,15 +34,14 @@ returns : tie.Need-returns
 returns c =
     let s = c .before .before .before .before .before .before .before .before .before .before .before .before .args in
     let r = c .before .before .before .before .run in
-    let e = ends-as (min (s .limit) nodeLimit) _ _ (s .database) (now (s .store)) (s .rows) (s .budget) (now (s .workspace)) (now (s .answer)) (c .before .before .before .before .before .before .before .rewrite-each .ensures) (r .ensures) in (
-      e .0,
-      e .1,
-      e .2,
-      λ t checked.
-          rewrites-invisible columns (min (s .limit) nodeLimit) (s .query) (s .database) (now (s .store)) t checked (s .database) (now (s .store)) (same-columns columns (s .database))
-          (stepsOver (s .database) (now (s .store)) (now (s .steps))) (over-one columns (s .database) (now (s .store)) (now (s .steps)))
-          (s .rows) (s .budget) (now (s .workspace)) (now (s .answer)),
-    )
+    let limit = min (s .limit) nodeLimit in
+    let q = leftBy columns limit (s .query) (s .database) (now (s .store)) (now (s .steps)) in
+    let e = ends-as limit _ q (s .database) (now (s .store)) (s .rows) (s .budget) (now (s .workspace)) (now (s .answer)) (c .before .before .before .before .before .before .before .rewrite-each .ensures)
+        (r .ensures .reply, r .ensures .workspace, r .ensures .answer) in
+    (e .0, e .1, e .2, λ found ran ended.
+      let x = run-ended columns limit q (s .database) (now (s .store)) (s .rows) (s .budget) (now (s .workspace)) (now (s .answer)) (r .result) (e .0) _ (e .2) found ran ended in
+      means-as columns limit (s .query) (s .database) (now (s .store)) (sym (x .cols)) (sym (x .found))
+      (left-means columns limit (s .database) (now (s .store)) (s .query) (now (s .steps)) (s .rows) (s .budget) (now (s .workspace)) (now (s .answer)) (x .answer) (x .accepts)))
 
 pub run-rewritten-spec : {M : Type 1} → statement M
 run-rewritten-spec = tie.close (tie.spec (λ c κs. search needs) (λ c κs. search needs) (λ c. search needs) (λ c. search needs) returns)
