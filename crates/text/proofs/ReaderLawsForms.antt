@@ -206,7 +206,7 @@ two-made f (some (n ∷ [])) = refl
 two-made f (some (n ∷ (m ∷ []))) = refl
 two-made f (some (n ∷ (m ∷ (k ∷ l)))) = refl
 
-numbers-behind : (key : String) (l : List ℕ) → numbersAfter key l ≡ numbersBehind (bytes key) l
+pub numbers-behind : (key : String) (l : List ℕ) → numbersAfter key l ≡ numbersBehind (bytes key) l
 unfolding numbersAfter
 numbers-behind key l = by-case (after (bytes key) l)
   where

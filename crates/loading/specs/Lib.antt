@@ -1,0 +1,3 @@
+pub mod NumberArrays
+pub mod RowReading
+pub mod Loading
