@@ -1,0 +1,4 @@
+pub mod Turns
+pub mod RowChanges
+pub mod StoredRows
+pub mod RowPairs
