@@ -2,15 +2,15 @@
 use mathlib.Core.Path.{_≡_, refl, ap, ap₂, sym, _∙_}
 use mathlib.Core.Bool.{Bool, true, false, _&&_, _||_}
 use mathlib.Core.List.{List, [], _∷_}
-use Prim.Native.Nat.{ℕ, suc, _+_, _-_, _≤_, _<_}
+use Prim.Native.Nat.{ℕ, _+_, _-_, _≤_, _<_}
 use native.Mathlib.Omega.{arith}
 use native.Mathlib.Numerals.{add-one}
-use lib.Dec.{eqb, leb, ltb}
+use lib.Dec.{eqb, leb}
 use borrow.Author.Tests.{lt-ltb, leb-true}
-use lib.ListN.{length, getD, drop}
+use lib.ListN.{getD, drop}
 use lib.Seq.{drop-cons}
 use Rattle.laws.specs.Lists.{if_then_else_, tabulate}
-use Rattle.laws.proofs.Tests.{true-false, and-true-right}
+use Rattle.laws.proofs.Tests.{true-false}
 use Rattle.laws.proofs.RowLists.{length-tabulate, getD-tabulate}
 use Rattle.laws.proofs.Indexed.{is-tabulate}
 use Rattle.laws.proofs.Passes.{filledTo-at}
@@ -30,7 +30,7 @@ use Rattle.query.specs.Passes.{noVisit, visitsOf, visitAt}
 use Rattle.checking.specs.NodeColumns.{hasStep, pairColumns, nodeColumns, columnsTo}
 use Rattle.query.proofs.Starts.{size-pos}
 use Rattle.query.proofs.Operands.{lastOf, firstOf, Under}
-use Rattle.query.proofs.Contexts.{Context, contextOf, stepsOver, enter, context}
+use Rattle.query.proofs.Contexts.{Context, stepsOver, enter, context}
 use Rattle.query.proofs.ShapedNodes.{visits-count, start-at, line-at, shaped-node, shaped-context, last-held, first-held}
 
 -- two sets that agree below the width are held alike

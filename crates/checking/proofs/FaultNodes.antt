@@ -1,6 +1,6 @@
 -- The second pass at a node, from the columns that the code holds.
 use mathlib.Core.Path.{_≡_, refl, ap, ap₂, sym, _∙_}
-use mathlib.Core.Bool.{Bool, true, false, not, _&&_}
+use mathlib.Core.Bool.{Bool, true, not, _&&_}
 use mathlib.Core.List.{List, []}
 use Prim.Native.Nat.{ℕ, _+_, _-_, _≤_, _<_}
 use native.Mathlib.Omega.{arith}
@@ -33,7 +33,7 @@ use Rattle.checking.specs.NodeColumns.{nodeColumns, columnSets}
 use Rattle.query.proofs.Starts.{size-pos}
 use Rattle.query.proofs.Operands.{lastOf, firstOf, Under}
 use Rattle.query.proofs.ShapedNodes.{visits-count, line-at, shaped-node, whole-last, whole-first}
-use Rattle.query.proofs.ScopeNodes.{OnForm, one-formed, two-formed, node-formed}
+use Rattle.query.proofs.ScopeNodes.{OnForm, one-formed, node-formed}
 use Rattle.checking.proofs.ColumnNodes.{columns-at}
 
 -- 9 and 10 as the code has them: the line, the book's tables, the columns of the operands

@@ -5,7 +5,7 @@ use Prim.Native.Nat.{ℕ}
 use lib.ListN.{take}
 use Rattle.algebra.specs.declared.Pairing.{Pairing}
 use Rattle.algebra.specs.declared.Pairing.the-variants.{Union, Join, Except}
-use Rattle.algebra.specs.Columns.{noCols, with, without, both, Schema, cols}
+use Rattle.algebra.specs.Columns.{noCols, both, Schema, cols}
 use Rattle.relation.specs.declared.Columns.{Columns}
 use Rattle.relation.specs.Rows.{columns, colsOf, columnsOf}
 use Rattle.query.specs.declared.Node.{Node}

@@ -8,6 +8,7 @@ use query::NODES;
 use query::Node;
 use query::Query;
 use query::first_pass::accept_if;
+use query::first_pass::first_of;
 use query::nodes::node_at;
 use query::nodes::preceding;
 use relation::Columns;
@@ -117,13 +118,10 @@ pub fn second_pass(
     ensures { λ r. ⌜ r ≡ secondVerdict (schema columns database) query ⌝ }
 {
     let count = query.count;
-    let mut i: usize = 0;
-    while i < count {
+    let mut found = Verdict::Accepted;
+    for i in 0..count {
         let fault = second_fault(query, database, start, held, i);
-        if let Verdict::Refused(refusal) = fault {
-            return Verdict::Refused(refusal);
-        }
-        i += 1;
+        found = first_of(found, fault);
     }
-    Verdict::Accepted
+    found
 }

@@ -9,7 +9,7 @@ use query::CheckedQuery;
 use query::Facts;
 use query::NODES;
 use query::Query;
-use query::Variables;
+use query::first_pass::first_of;
 use query::first_pass::first_pass;
 use query::forms::check_form;
 use query::free::free_sets;
@@ -21,13 +21,12 @@ ghost use Prim.Native.Nat.{_≤_, min};
 ghost use Rattle.algebra.specs.Columns.{Schema};
 ghost use Rattle.relation.specs.Rows.{columns};
 ghost use Rattle.database.specs.Stored.{schema};
-ghost use Rattle.database.specs.Refusals.{Reply, refused};
+ghost use Rattle.database.specs.Refusals.{refused};
 ghost use Rattle.query.specs.Lines.{nodeLimit};
 ghost use Rattle.query.specs.Check.{checkQuery, checkOver};
 ghost use Rattle.query.specs.Facts.{checkedValue};
 ghost use Rattle.query.specs.Shape.{Shaped, Formed};
-ghost use Rattle.query.specs.FreeSets.{freeSets};
-ghost use Rattle.checking.specs.CheckStages.{checkTerm, checkColumns};
+ghost use Rattle.checking.specs.CheckStages.{checkTerm};
 
 // A refusal, with blank facts.
 fn refusal(refusal: Refusal) -> CheckedQuery
@@ -45,18 +44,16 @@ fn refusal(refusal: Refusal) -> CheckedQuery
     }
 }
 
-// 9 and 10, and the facts.
-fn check_columns(
-    query: Query,
-    database: Database,
-    start: [usize; NODES],
-    free: [Variables; NODES],
-) -> CheckedQuery
-    requires { ⌜ Shaped query start × Formed query × ((G : Schema) → free ≡ freeSets G query) ⌝ }
-    ensures { λ r. ⌜ r ≡ checkedValue (schema columns database) (checkColumns query (schema columns database)) ⌝ }
+// "First pass, lowest node first, then lowest number: 4 to 8. Second pass, lowest node: 9 or 10." And the facts.
+fn check_passes(query: Query, database: Database, start: [usize; NODES]) -> CheckedQuery
+    requires { ⌜ Shaped query start × Formed query ⌝ }
+    ensures { λ r. ⌜ r ≡ checkedValue (schema columns database) (checkTerm query (schema columns database)) ⌝ }
 {
+    let free = free_sets(query, start);
     let columns = column_sets(query, database, start);
-    match second_pass(query, database, start, columns) {
+    let first = first_pass(query, start, free);
+    let second = second_pass(query, database, start, columns);
+    match first_of(first, second) {
         Verdict::Refused(cause) => refusal(cause),
         Verdict::Accepted => CheckedQuery {
             verdict: Verdict::Accepted,
@@ -66,18 +63,6 @@ fn check_columns(
                 columns,
             },
         },
-    }
-}
-
-// 4 to 8, and what comes behind.
-fn check_scope(query: Query, database: Database, start: [usize; NODES]) -> CheckedQuery
-    requires { ⌜ Shaped query start × Formed query ⌝ }
-    ensures { λ r. ⌜ r ≡ checkedValue (schema columns database) (checkTerm query (schema columns database)) ⌝ }
-{
-    let free = free_sets(query, start);
-    match first_pass(query, start, free) {
-        Verdict::Refused(cause) => refusal(cause),
-        Verdict::Accepted => check_columns(query, database, start, free),
     }
 }
 
@@ -91,7 +76,7 @@ fn check_shape(query: Query, database: Database) -> CheckedQuery
     let verdict = shaped.verdict;
     match verdict {
         Verdict::Refused(cause) => refusal(cause),
-        Verdict::Accepted => check_scope(query, database, start),
+        Verdict::Accepted => check_passes(query, database, start),
     }
 }
 

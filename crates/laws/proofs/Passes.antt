@@ -8,7 +8,7 @@ use native.Mathlib.Numerals.{add-one}
 use native.Mathlib.Nat.{not-suc-le-zero}
 use native.Mathlib.Decide.{decLt}
 use lib.ListN.{length, getD, set, take, drop, replicate, length-append, length-map, length-replicate, getD-replicate, List·getD-append, List·getD-map, List·getD-eq-default}
-use lib.Seq.{set-at, getD-append-add, take-suc, drop-cons, split-at, length-take-le, getD-take}
+use lib.Seq.{set-at, getD-append-add, take-suc, drop-cons, length-take-le, getD-take}
 use Rattle.laws.specs.Lists.{if_then_else_, every, any, sift, all}
 use Rattle.laws.proofs.Tests.{and-true, and-true-left, and-true-right, or-true-left, or-true-right}
 
@@ -71,12 +71,6 @@ module _ {A B : Type 0} (f : List A → A → List B) (l : List A) (i : ℕ) (d 
   walk-more =
       ap (λ (k : ℕ). walk f [] (take k l)) (add-one i) ∙ ap (walk f []) (take-suc l i d h) ∙ walk-append f [] (take i l) (getD l i d ∷ [])
       ∙ ap (λ (r : List B). walk f [] (take i l) ++ r) (walk-one f (take i l) (getD l i d))
-
-  -- what the rest gives comes behind
-  pub walk-split : (r : List B) × (walk f [] l ≡ walk f [] (take i l) ++ (f (take i l) (getD l i d) ++ r))
-  unfolding walk
-  walk-split =
-      (walk f (take i l ++ (getD l i d ∷ [])) (drop (suc i) l), ap (walk f []) (split-at l i d h) ∙ walk-append f [] (take i l) (getD l i d ∷ drop (suc i) l))
 
 -- a search among the first elements
 module _ {A : Type 0} (p : A → Bool) where

@@ -1,63 +1,46 @@
--- A pass as a loop over the nodes: no fault so far, or the first one.
-use mathlib.Core.Path.{_≡_, refl, ap, sym, _∙_}
+-- A pass as a loop over the nodes: the first fault so far.
+use mathlib.Core.Path.{_≡_, refl, ap, ap₂, sym, _∙_}
 use mathlib.Core.List.{List, [], _∷_, _++_}
 use Prim.Native.Nat.{ℕ, _+_, _<_}
 use lib.ListN.{length, getD, take}
 use lib.Seq.{take-length}
-use Rattle.laws.proofs.Passes.{walk, walk-more, walk-split}
+use Rattle.laws.proofs.Passes.{walk, walk-more}
 use Rattle.algebra.specs.Term.{Term}
 use Rattle.algebra.specs.Columns.{noCols, Schema}
 use Rattle.database.specs.declared.Refusal.{Refusal}
-use Rattle.database.specs.declared.Verdict.the-variants.{Accepted, Refused}
-use Rattle.database.specs.Refusals.{Reply, refused, accepted, verdict, noFault, _>>=_}
+use Rattle.database.specs.declared.Verdict.{Verdict}
+use Rattle.database.specs.declared.Verdict.the-variants.{Accepted}
+use Rattle.database.specs.Refusals.{Reply, verdict, noFault, _>>=_}
 use Rattle.query.specs.declared.Query.{Query}
-use Rattle.query.specs.Lines.{nodes}
 use Rattle.query.specs.Check.{firstPass, secondPass}
 use Rattle.query.specs.Facts.{Visit}
 use Rattle.query.specs.Shape.{Shaped}
-use Rattle.query.specs.Passes.{noVisit, visitsOf, numbers, firstAt, secondAt, firstVerdict, secondVerdict}
+use Rattle.query.specs.Passes.{noVisit, visitsOf, numbers, firstAt, secondAt, firstOf, firstVerdict, secondVerdict}
 use Rattle.query.proofs.ShapedNodes.{nodes-are}
 use Rattle.query.proofs.Walks.{first-walk, second-walk}
 
-pub fault-append : (l m : List Refusal) → noFault (l ++ m) ≡ noFault l >>= λ _. noFault m
-fault-append [] m = refl
-fault-append (r ∷ l) m = refl
-
--- a verdict says which reply it is of
-pub verdict-accepted : (r : Reply (Unit {0})) → verdict r ≡ Accepted → r ≡ accepted tt
-verdict-accepted (refused x) e = cc
-verdict-accepted (accepted u) e = refl
-
-pub verdict-refused : {A : Type 0} (r : Reply A) (x : Refusal) → verdict r ≡ Refused x → r ≡ refused x
-verdict-refused (refused y) x e = let z : y ≡ x = cc in ap refused z
-verdict-refused (accepted u) x e = cc
+-- the first fault of two lists
+pub first-of-faults : (l m : List Refusal) → firstOf (verdict (noFault l)) (verdict (noFault m)) ≡ verdict (noFault (l ++ m))
+first-of-faults [] m = refl
+first-of-faults (r ∷ l) m = refl
 
 module _ (f : List Visit → Visit → List Refusal) (vs : List Visit) where
-  -- the first i nodes have no fault
-  abbrev pub Passed : ℕ → Type 0
-  Passed i = noFault (walk f [] (take i vs)) ≡ accepted tt
+  -- what the first i nodes give
+  abbrev pub found : ℕ → Verdict
+  found i = verdict (noFault (walk f [] (take i vs)))
 
-  pub passed-none : Passed 0
+  pub found-none : Accepted ≡ found 0
   unfolding walk
-  passed-none = refl
+  found-none = refl
 
-  pub passed-all : (i : ℕ) → i ≡ length vs → Passed i → verdict (noFault (walk f [] vs)) ≡ Accepted
-  passed-all i e p =
-      ap (λ (l : List Visit). verdict (noFault (walk f [] l))) (sym (ap (λ (k : ℕ). take k vs) e ∙ take-length vs)) ∙ ap verdict p
+  pub found-more : (i : ℕ) → i < length vs → (u v : Verdict) → u ≡ found i → v ≡ verdict (noFault (f (take i vs) (getD vs i noVisit)))
+      → firstOf u v ≡ found (i + 1)
+  found-more i h u v e g =
+      ap₂ firstOf e g ∙ first-of-faults (walk f [] (take i vs)) (f (take i vs) (getD vs i noVisit))
+      ∙ ap (λ (l : List Refusal). verdict (noFault l)) (sym (walk-more f vs i noVisit h))
 
-  module _ (i : ℕ) (h : i < length vs) (p : Passed i) where
-    pub passed-more : Accepted ≡ verdict (noFault (f (take i vs) (getD vs i noVisit))) → Passed (i + 1)
-    passed-more e =
-        ap noFault (walk-more f vs i noVisit h) ∙ fault-append (walk f [] (take i vs)) (f (take i vs) (getD vs i noVisit))
-        ∙ ap (λ (r : Reply (Unit {0})). r >>= λ _. noFault (f (take i vs) (getD vs i noVisit))) p ∙ verdict-accepted _ (sym e)
-
-    pub passed-ends : (x : Refusal) → Refused x ≡ verdict (noFault (f (take i vs) (getD vs i noVisit))) → verdict (noFault (walk f [] vs)) ≡ Refused x
-    passed-ends x e =
-        let (r, s) = walk-split f vs i noVisit h in
-        let y = f (take i vs) (getD vs i noVisit) in
-        ap (λ (l : List Refusal). verdict (noFault l)) s
-        ∙ ap verdict (fault-append (walk f [] (take i vs)) (y ++ r) ∙ ap (λ (q : Reply (Unit {0})). q >>= λ _. noFault (y ++ r)) p
-        ∙ fault-append y r ∙ ap (λ (q : Reply (Unit {0})). q >>= λ _. noFault r) (verdict-refused (noFault y) x (sym e)))
+  pub found-all : (i : ℕ) → i ≡ length vs → found i ≡ verdict (noFault (walk f [] vs))
+  found-all i e = ap (λ (l : List Visit). verdict (noFault (walk f [] l))) (ap (λ (k : ℕ). take k vs) e ∙ take-length vs)
 
 module _ (q : Query) (start : List ℕ) (s : Shaped q start) (G : Schema) where
   -- what the walks reply is what the passes do

@@ -10,6 +10,7 @@ use Rattle.algebra.specs.Columns.{Cols, noCols, Schema, cols, free, isClosed, s
 use Rattle.database.specs.declared.Refusal.{Refusal}
 use Rattle.database.specs.declared.Refusal.the-variants.{Scope, OpenFix, HalfOpen, ColumnFault, NoTable}
 use Rattle.database.specs.declared.Verdict.{Verdict}
+use Rattle.database.specs.declared.Verdict.the-variants.{Accepted, Refused}
 use Rattle.database.specs.Refusals.{Reply, verdict, noFault, _>>=_}
 use Rattle.query.specs.declared.Node.{Node}
 use Rattle.query.specs.declared.Node.the-variants.{Table, Var, Fact, Pair, Filter, Copy, Drop, Fix}
@@ -77,6 +78,11 @@ columnFaults G (fix v a b) C n = unless (sameCols (G .width) (cols G (cols G C a
 
 abbrev pub secondAt : Schema → List Visit → Visit → List Refusal
 secondAt G before x = columnFaults G (x .term) (x .variable) (length before + 1)
+
+-- "lowest node first, then lowest number": of two verdicts, the first refusal
+abbrev pub firstOf : Verdict → Verdict → Verdict
+firstOf (Refused r) v = Refused r
+firstOf Accepted v = v
 
 -- what the first pass replies for a query that reads to a term
 abbrev pub firstVerdict : Query → Verdict

@@ -18,7 +18,7 @@ returns c =
     let G = schema columns (a .database) in
     c .refusal .ensures G refl
     ∙ ap (checkedValue G)
-    (sym (book-refused columns (min (a .limit) nodeLimit) (a .query) (a .database) (now (a .store)) _ (sym (m .before .before .check-database .ensures) ∙ m .cause .given .1)))
+    (sym (book-refused columns (min (a .limit) nodeLimit) (a .query) (a .database) (now (a .store)) (sym (m .cause .given .1) ∙ m .before .before .check-database .ensures)))
 
 returns-2 : tie.Need-returns-2
 returns-2 c =
@@ -27,7 +27,7 @@ returns-2 c =
     let G = schema columns (a .database) in
     c .check-query .ensures
     ∙ ap (checkedValue G)
-    (sym (book-passed columns (min (a .limit) nodeLimit) (a .query) (a .database) (now (a .store)) (sym (m .check-database .ensures) ∙ c .before .enum-told .given .1)))
+    (sym (book-passed columns (min (a .limit) nodeLimit) (a .query) (a .database) (now (a .store)) (sym (c .before .enum-told .given .1) ∙ m .check-database .ensures)))
 
 pub check-spec : {M : Type 1} → statement M
 check-spec =

@@ -15,7 +15,7 @@ check-shape-requires : tie.Need-check-shape-requires
 check-shape-requires c κs =
     let m = c .before .before in
     let s = m .before in
-    let (h, k, f) = form-says (s .args .query) (min (s .args .limit) nodeLimit) (sym (m .check-form .ensures) ∙ c .enum-told .given .1) in
+    let (h, k, f) = form-says (s .args .query) (min (s .args .limit) nodeLimit) (sym (c .enum-told .given .1) ∙ m .check-form .ensures) in
     (h, omega arith, f)
 
 returns : tie.Need-returns
@@ -24,7 +24,7 @@ returns c =
     let s = m .before .before .before in
     let G = schema columns (s .args .database) in
     c .refusal .ensures G refl
-    ∙ ap (checkedValue G) (sym (form-refused (s .args .query) G (min (s .args .limit) nodeLimit) _ (sym (m .before .before .check-form .ensures) ∙ m .cause .given .1)))
+    ∙ ap (checkedValue G) (sym (form-refused (s .args .query) G (min (s .args .limit) nodeLimit) (sym (m .cause .given .1) ∙ m .before .before .check-form .ensures)))
 
 returns-2 : tie.Need-returns-2
 returns-2 c =
@@ -32,7 +32,7 @@ returns-2 c =
     let s = m .before in
     let G = schema columns (s .args .database) in
     c .check-shape .ensures
-    ∙ ap (checkedValue G) (sym (form-passed (s .args .query) G (min (s .args .limit) nodeLimit) (sym (m .check-form .ensures) ∙ c .before .enum-told .given .1)))
+    ∙ ap (checkedValue G) (sym (form-passed (s .args .query) G (min (s .args .limit) nodeLimit) (sym (c .before .enum-told .given .1) ∙ m .check-form .ensures)))
 
 pub check-query-spec : {M : Type 1} → statement M
 check-query-spec =

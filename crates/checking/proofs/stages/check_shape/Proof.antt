@@ -12,12 +12,12 @@ use Rattle.checking.proofs.StageReplies.{shape-refused, shape-passed}
 use Rattle.checking.proofs.stages.check_shape.Statement.{statement}
 use Rattle.checking.proofs.stages.check_shape.Tie as tie
 
-check-scope-requires : tie.Need-check-scope-requires
-check-scope-requires c κs =
+check-passes-requires : tie.Need-check-passes-requires
+check-passes-requires c κs =
     let m = c .before .before .before in
     let s = m .before in
     let q = s .args .query in
-    (shape-passed q (m .shape .result) (m .shape .ensures) (c .enum-told .given .1) (nodes-length q _ (s .good .0) (s .pre .1)) (s .pre .1), s .pre .2)
+    (shape-passed q (m .shape .result) (m .shape .ensures) (sym (c .enum-told .given .1)) (nodes-length q _ (s .good .0) (s .pre .1)) (s .pre .1), s .pre .2)
 
 returns : tie.Need-returns
 returns c =
@@ -27,9 +27,9 @@ returns c =
     let G = schema columns (s .args .database) in
     c .refusal .ensures G refl
     ∙ ap (λ (r : Reply Term). checkedValue G (r >>= λ t. noFault (faults G t) >>= λ _. accepted t))
-    (sym (shape-refused (s .args .query) (p .shape .result) (p .shape .ensures) _ (m .verdict .given .1)))
+    (sym (shape-refused (s .args .query) (p .shape .result) (p .shape .ensures) (sym (m .verdict .given .1))))
 
 pub check-shape-spec : {M : Type 1} → statement M
 check-shape-spec =
-    tie.close (tie.spec (λ c κs. search needs) (λ c. search needs) (λ c κs. search needs) (λ c. search needs) check-scope-requires returns
+    tie.close (tie.spec (λ c κs. search needs) (λ c. search needs) (λ c κs. search needs) (λ c. search needs) check-passes-requires returns
     (λ c. search needs))
