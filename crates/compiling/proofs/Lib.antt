@@ -1,0 +1,6 @@
+pub mod Added
+pub mod Drafted
+pub mod OrderBounds
+pub mod Placed
+pub mod Drafting
+pub mod Planned
