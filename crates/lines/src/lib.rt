@@ -1,12 +1,13 @@
 // The plan lines that work row by row: each gives its destination register the rows that its definition says.
 pub mod changes; // changes.rt: filter, copy, drop
-pub mod pairs; // pairs.rt: join, except
+pub mod excepts; // excepts.rt: except
+pub mod joins; // joins.rt: join
 pub mod rows; // rows.rt: a fact, a table
 
 use algebra::Condition;
 pub use changes::change_line;
-pub use pairs::except_line;
-pub use pairs::join_line;
+pub use excepts::except_line;
+pub use joins::join_line;
 pub use rows::fact_line;
 pub use rows::table_line;
 
