@@ -6,6 +6,7 @@ mod lines; // lines.rt: the lines themselves
 mod compiler; // compiler.rt: the plan of a checked query
 
 pub use compiler::compile;
+pub use compiler::plan_of;
 
 // A plan in the making. In a loop, delta is its delta register and begun the place of its start line; else both are 0. loops: how many loops
 // have begun.

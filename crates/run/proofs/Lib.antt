@@ -1,0 +1,11 @@
+pub mod Ascends
+pub mod Outcomes
+pub mod Runs
+pub mod RunLines
+pub mod Zeros
+pub mod Answers
+pub mod Began
+pub mod Registers
+pub mod Accepted
+pub mod Meaning
+pub mod Outset
