@@ -1,8 +1,8 @@
 -- What 13 to 15 ask by the indices is what they ask of the match.
-use mathlib.Core.Path.{_≡_, refl, ap, ap₂, sym, _∙_, subst}
-use mathlib.Core.Bool.{Bool, true, false, not, _&&_, _||_}
-use mathlib.Core.List.{List, [], _∷_, _++_}
-use Prim.Native.Nat.{ℕ, _+_, _-_, _≤_, _<_}
+use mathlib.Core.Path.{_≡_, refl, ap, ap₂}
+use mathlib.Core.Bool.{Bool, true, not, _&&_}
+use mathlib.Core.List.{List, [], _∷_}
+use Prim.Native.Nat.{ℕ, _≤_, _<_}
 use lib.Dec.{ltb}
 use lib.ListN.{length}
 use borrow.Author.Tests.{ltb-true}
@@ -11,8 +11,8 @@ use Rattle.laws.proofs.Tests.{and-true-left, and-true-right}
 use Rattle.laws.proofs.Passes.{every-split}
 use Rattle.algebra.specs.declared.Condition.{Condition}
 use Rattle.algebra.specs.Term.{Term, filter, drop}
-use Rattle.algebra.specs.Columns.{Cols, noCols, Schema, cols, named, stable, used}
-use Rattle.algebra.specs.Rules.{Loop, Match, filter-fix, fix-join, join-fix, fix-except, drop-fix, fix-fix, stableEnough, unusedEnough, closedEnough}
+use Rattle.algebra.specs.Columns.{Cols, noCols, Schema, cols, named}
+use Rattle.algebra.specs.Rules.{Match, filter-fix, fix-join, join-fix, fix-except, drop-fix, fix-fix, stableEnough, unusedEnough, closedEnough}
 use Rattle.algebra.proofs.Redex.{fixOf, redex}
 use Rattle.relation.specs.Rows.{columns}
 use Rattle.database.specs.declared.Database.{Database}

@@ -1,20 +1,19 @@
 -- What a kind finds at a node of a checked query fits the node's index.
-use mathlib.Core.Path.{_≡_, refl, ap, sym, _∙_, subst}
+use mathlib.Core.Path.{_≡_, refl}
 use mathlib.Core.Bool.{Bool, true, false}
-use Prim.Native.Nat.{ℕ, _+_, _-_, _≤_, _<_}
+use Prim.Native.Nat.{ℕ, _-_, _<_}
 use native.Mathlib.Omega.{arith}
 use lib.Dec.{eqb}
 use Rattle.laws.specs.Lists.{if_then_else_}
-use Rattle.algebra.specs.declared.Pairing.{Pairing}
 use Rattle.algebra.specs.declared.Pairing.the-variants.{Union, Join, Except}
 use Rattle.query.specs.declared.Node.{Node}
 use Rattle.query.specs.declared.Node.the-variants.{Table, Var, Fact, Pair, Filter, Copy, Drop, Fix}
 use Rattle.query.specs.declared.Query.{Query}
 use Rattle.query.specs.declared.Facts.{Facts}
-use Rattle.rewrite.specs.Places.{lineAt, startAt}
+use Rattle.rewrite.specs.Places.{lineAt}
 use Rattle.matching.specs.declared.Found.{Found}
 use Rattle.matching.specs.declared.Found.the-variants.{Nothing, FilterFix, FixJoin, JoinFix, FixExcept, DropFix, FixFix}
-use Rattle.matching.specs.Found.{isFix, rightOf, leftOf, overFix, joinFound, pairFound, lineFound, foundAt, Within, Fits, Placed}
+use Rattle.matching.specs.Found.{isFix, rightOf, leftOf, overFix, joinFound, lineFound, foundAt, Within, Fits, Placed}
 
 module _ (q : Query) (facts : Facts) (p : Placed q facts) (k i : ℕ) where
   either : (b : Bool) (m n : Found) → (b ≡ true → Fits facts i m) → Fits facts i n → Fits facts i (if b then m else n)

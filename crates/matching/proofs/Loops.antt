@@ -1,34 +1,32 @@
 -- The fixes and the operands of a checked query, by the indices of their lines: their columns, what their paths drop and use, whether they are closed.
-use mathlib.Core.Path.{_≡_, refl, ap, ap₂, sym, _∙_, subst}
+use mathlib.Core.Path.{_≡_, refl, ap, ap₂, sym, _∙_}
 use mathlib.Core.Bool.{Bool, true, false, not, _&&_, _||_}
 use mathlib.Core.Logic.{inl, inr}
-use mathlib.Core.List.{List, [], _∷_, _++_}
+use mathlib.Core.List.{[]}
 use Prim.Native.Nat.{ℕ, zero, suc, _+_, _-_, _≤_, _<_}
 use native.Mathlib.Omega.{arith}
 use lib.Dec.{ltb}
 use borrow.Author.Tests.{ltb-true}
-use lib.ListN.{length, getD, take, length-append}
-use Rattle.laws.specs.Lists.{_==_, every, all, member}
+use lib.ListN.{length, length-append}
+use Rattle.laws.specs.Lists.{_==_, every, all}
 use Rattle.laws.proofs.Lists.{count, count-append, count-head, count-absent}
 use Rattle.laws.proofs.Tests.{and-true-left}
 use Rattle.laws.proofs.Passes.{every-split, every-at}
-use Rattle.algebra.specs.Term.{Term, filter, drop, fix}
-use Rattle.algebra.specs.Columns.{Cols, noCols, Schema, cols, free, isClosed, size, fixNumbers, named, dropped, used, stable}
+use Rattle.algebra.specs.Term.{Term}
+use Rattle.algebra.specs.Columns.{Cols, noCols, Schema, cols, isClosed, size, fixNumbers, dropped, used, stable}
 use Rattle.algebra.specs.WellFormed.{Closed, c-fix, Path}
 use Rattle.algebra.specs.Rules.{Loop, sharedStable, othersUnused}
 use Rattle.algebra.proofs.Distinct.{distinct-count}
 use Rattle.algebra.proofs.Redex.{fixOf}
 use Rattle.relation.specs.declared.Columns.{Columns}
-use Rattle.relation.specs.Rows.{columns, colsOf, columnsOf}
+use Rattle.relation.specs.Rows.{columns, colsOf}
 use Rattle.database.specs.declared.Database.{Database}
 use Rattle.database.specs.Stored.{schema, tableLimit}
-use Rattle.query.specs.declared.Node.{Node}
-use Rattle.query.specs.declared.Node.the-variants.{Table, Fix, Filter, Drop}
-use Rattle.query.specs.declared.Variables.{Variables}
+use Rattle.query.specs.declared.Node.the-variants.{Table}
 use Rattle.query.specs.declared.Query.{Query}
 use Rattle.query.specs.declared.Facts.{Facts}
 use Rattle.query.specs.Lines.{nodeLimit, nodes, onForm, lines}
-use Rattle.query.specs.Facts.{visits, factsOf, padded}
+use Rattle.query.specs.Facts.{visits, factsOf}
 use Rattle.query.specs.FreeSets.{noneIn}
 use Rattle.query.proofs.CheckReply.{Checked}
 use Rattle.query.proofs.Parts.{of-node}
@@ -39,13 +37,12 @@ use Rattle.query.proofs.Starts.{size-pos, begins-low}
 use Rattle.query.proofs.TermLines.{term-lines}
 use Rattle.query.proofs.Visits.{visits-starts}
 use Rattle.rewrite.specs.declared.PathColumns.{PathColumns}
-use Rattle.rewrite.specs.Places.{lineAt, startAt, freeAt, columnsAt, last, Told, Stands, StartsLow, LoopAt}
-use Rattle.rewrite.specs.Path.{pathAt}
+use Rattle.rewrite.specs.Places.{startAt, freeAt, last, Told, Stands, StartsLow, LoopAt}
 use Rattle.rewrite.proofs.GrownColumns.{columns-back}
 use Rattle.rewrite.proofs.OnPath.{stands-told}
 use Rattle.rewrite.proofs.AlongPath.{loop-path}
 use Rattle.rewrite.proofs.RuleSheet.{few-numbers}
-use Rattle.matching.specs.Found.{apartAt, colsAt, droppedAt, usedAt, sharedKept, othersFresh}
+use Rattle.matching.specs.Found.{colsAt, droppedAt, usedAt, sharedKept, othersFresh}
 use Rattle.matching.proofs.Standing.{Here, here-stands, here-reads, here-lines, here-place, under}
 
 -- tests that agree on each number below n

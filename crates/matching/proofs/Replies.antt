@@ -1,56 +1,52 @@
 -- What a step replies, test by test.
-use mathlib.Core.Path.{_≡_, refl, ap, ap₂, sym, _∙_}
+use mathlib.Core.Path.{_≡_, refl, ap, sym, _∙_}
 use mathlib.Core.Bool.{Bool, true, false}
 use Prim.Native.Nat.{ℕ, _-_, _≤_, _<_}
-use lib.Dec.{eqb, leb}
+use native.Mathlib.Omega.{arith}
+use lib.Dec.{leb}
 use borrow.Author.Tests.{eq-eqb, ne-eqb, le-leb, lt-leb}
 use Rattle.laws.specs.Lists.{if_then_else_}
 use Rattle.database.specs.declared.Refusal.the-variants.{NoMatch, Unstable, Used, OpenOperand}
-use Rattle.database.specs.Refusals.{Reply, refused, accepted, require, _>>=_}
+use Rattle.database.specs.declared.Refusal.{Refusal}
+use Rattle.database.specs.declared.Verdict.{Verdict}
+use Rattle.database.specs.declared.Verdict.the-variants.{Accepted, Refused}
+use Rattle.database.specs.Refusals.{Reply, refused, accepted, require, verdict, noFault, _>>=_}
 use Rattle.query.specs.declared.Query.{Query}
 use Rattle.query.specs.declared.Facts.{Facts}
-use Rattle.matching.specs.declared.Found.{Found}
-use Rattle.matching.specs.Found.{foundAt, writtenAt, isFound, stableAt, unusedAt, closedAt, replyTo, stepReply}
+use Rattle.query.specs.Check.{unless}
+use Rattle.query.specs.Passes.{firstOf}
+use Rattle.matching.specs.Found.{foundAt, replyTo, stepReply}
 
 -- the tests in their order: f: something is found; s, u, c: 13, 14 and 15 are met
-abbrev tests : Query → Bool → Bool → Bool → Bool → Reply Query
-tests p f s u c = do
+abbrev pub tests : Bool → Bool → Bool → Bool → Reply (Unit {0})
+tests f s u c = do
   _ ← require f NoMatch
   _ ← require s Unstable
   _ ← require u Used
-  _ ← require c OpenOperand
-  accepted p
+  require c OpenOperand
 
-module _ (q : Query) (facts : Facts) (i : ℕ) (m : Found) where
-  abbrev p : Query
-  p = writtenAt q facts i m
+-- one test's verdict
+abbrev tested : Bool → Refusal → Verdict
+tested b r = verdict (noFault (unless b r))
 
-  abbrev s : Bool
-  s = stableAt q facts m
+-- the first refusal of four tests
+pub in-order : (f s u c : Bool)
+    → firstOf (firstOf (tested f NoMatch) (tested s Unstable)) (firstOf (tested u Used) (tested c OpenOperand)) ≡ verdict (tests f s u c)
+unfolding unless
+in-order false s u c = refl
+in-order true false u c = refl
+in-order true true false c = refl
+in-order true true true false = refl
+in-order true true true true = refl
 
-  abbrev u : Bool
-  u = unusedAt q facts m
+-- what is replied by the tests' verdict
+pub judged-refused : {A : Type 0} (x : Reply (Unit {0})) (a : A) (r : Refusal) → verdict x ≡ Refused r → refused r ≡ x >>= λ _. accepted a
+judged-refused (refused b) a r e = let i : b ≡ r = cc in ap refused (sym i)
+judged-refused (accepted _) a r e = let z : _≡_ {A = ℕ} 0 1 = cc in absurd (omega arith)
 
-  abbrev c : Bool
-  c = closedAt facts m
-
-  pub not-found : isFound m ≡ false → refused NoMatch ≡ replyTo q facts i m
-  not-found e = ap (λ (b : Bool). tests p b s u c) (sym e)
-
-  pub not-stable : isFound m ≡ true → s ≡ false → refused Unstable ≡ replyTo q facts i m
-  not-stable e g = ap₂ (λ (b d : Bool). tests p b d u c) (sym e) (sym g)
-
-  pub not-unused : isFound m ≡ true → s ≡ true → u ≡ false → refused Used ≡ replyTo q facts i m
-  not-unused e g h = ap (λ (b : Bool). tests p true true b c) (sym h) ∙ ap₂ (λ (b d : Bool). tests p b d u c) (sym e) (sym g)
-
-  passed : isFound m ≡ true → s ≡ true → u ≡ true → require c OpenOperand >>= (λ _. accepted p) ≡ replyTo q facts i m
-  passed e g h = ap (λ (b : Bool). tests p true true b c) (sym h) ∙ ap₂ (λ (b d : Bool). tests p b d u c) (sym e) (sym g)
-
-  pub not-closed : isFound m ≡ true → s ≡ true → u ≡ true → c ≡ false → refused OpenOperand ≡ replyTo q facts i m
-  not-closed e g h j = ap (tests p true true true) (sym j) ∙ passed e g h
-
-  pub all-met : isFound m ≡ true → s ≡ true → u ≡ true → c ≡ true → accepted p ≡ replyTo q facts i m
-  all-met e g h j = ap (tests p true true true) (sym j) ∙ passed e g h
+pub judged-accepted : {A : Type 0} (x : Reply (Unit {0})) (a : A) → verdict x ≡ Accepted → accepted a ≡ x >>= λ _. accepted a
+judged-accepted (refused b) a e = let z : _≡_ {A = ℕ} 0 1 = cc in absurd (omega arith)
+judged-accepted (accepted _) a e = refl
 
 module _ (q : Query) (facts : Facts) (k n : ℕ) where
   abbrev at : Reply Query

@@ -1,10 +1,10 @@
 -- What a kind writes by the indices is what its rule writes.
 use mathlib.Core.Path.{_≡_, refl, ap, ap₂, sym, _∙_, subst}
-use mathlib.Core.Bool.{Bool, true, false}
+use mathlib.Core.Bool.{true}
 use mathlib.Core.Option.{some}
 use mathlib.Core.Logic.{inl, inr}
 use mathlib.Core.List.{List, [], _∷_, _++_, append-assoc}
-use Prim.Native.Nat.{ℕ, _+_, _-_, _≤_, _<_}
+use Prim.Native.Nat.{ℕ, _+_, _-_, _≤_}
 use native.Mathlib.Omega.{arith}
 use lib.ListN.{length, length-append}
 use Rattle.algebra.specs.declared.Pairing.the-variants.{Union, Join, Except}
@@ -31,7 +31,7 @@ use Rattle.rewrite.specs.Rewrite.{withNodes, replaced}
 use Rattle.rewrite.specs.Patterns.{linesBefore, linesAfter, renameLines}
 use Rattle.rewrite.specs.Splices.{withLines, merged}
 use Rattle.rewrite.proofs.RuleLines.{rule-lines}
-use Rattle.matching.specs.Found.{movedAt, mergedAt, writtenAt}
+use Rattle.matching.specs.Found.{movedAt, writtenAt}
 use Rattle.matching.proofs.Standing.{Here, pair-left, pair-right, filter-down, drop-down, under, after, here-place, here-lines, here-replaced}
 use Rattle.matching.proofs.Loops.{here-told, here-fine, here-numbers, step-start}
 use Rattle.matching.proofs.Matched.{foundOf}

@@ -1,15 +1,12 @@
 -- Where the node of a checked query stands: its lines among the query's, its nodes among those that the check visits, and what the check tells of them.
-use mathlib.Core.Path.{_≡_, refl, ap, ap₂, sym, _∙_, subst}
-use mathlib.Core.Bool.{Bool, true, false}
+use mathlib.Core.Path.{_≡_, refl, ap, ap₂, sym, _∙_}
 use mathlib.Core.List.{List, [], _∷_, _++_, map, append-assoc, append-nil}
-use Prim.Native.Nat.{ℕ, zero, suc, _+_, _-_, _≤_, _<_}
+use Prim.Native.Nat.{ℕ, _+_, _-_, _≤_, _<_}
 use native.Mathlib.Omega.{arith}
 use native.Mathlib.Decide.{decLt}
-use lib.Dec.{leb}
 use borrow.Author.Tests.{le-leb, lt-leb}
 use lib.ListN.{length, getD, take, drop as dropFirst, length-append, length-map, List·getD-append}
 use lib.Seq.{take-at, drop-at}
-use Rattle.laws.specs.Lists.{if_then_else_}
 use Rattle.laws.proofs.TextLists.{getD-map}
 use Rattle.algebra.specs.declared.Pairing.{Pairing}
 use Rattle.algebra.specs.declared.Condition.{Condition}
@@ -30,7 +27,7 @@ use Rattle.query.specs.Shape.{root}
 use Rattle.query.proofs.Reading.{flat, read-flat, read-lines, size-lines}
 use Rattle.query.proofs.Starts.{size-pos}
 use Rattle.query.proofs.Visits.{visits-length, visits-lines, last-at}
-use Rattle.rewrite.specs.Places.{lineAt, startAt, freeAt, columnsAt, last, Told, Stands}
+use Rattle.rewrite.specs.Places.{last, Told, Stands}
 use Rattle.rewrite.specs.Rewrite.{around, replaced}
 
 -- a part of a list, at its place

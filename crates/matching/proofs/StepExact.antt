@@ -2,13 +2,12 @@
 use mathlib.Core.Path.{_≡_, refl, ap, ap₂, sym, _∙_, subst}
 use mathlib.Core.Bool.{Bool, true, false}
 use mathlib.Core.Option.{Option, some, none}
-use mathlib.Core.List.{List, [], _∷_}
-use Prim.Native.Nat.{ℕ, zero, suc, _+_, _-_, _≤_, _<_}
+use mathlib.Core.List.{List, []}
+use Prim.Native.Nat.{ℕ, _+_, _-_, _≤_, _<_}
 use native.Mathlib.Omega.{arith}
 use native.Mathlib.Decide.{decLt}
-use lib.ListN.{length, getD, take, List·getD-eq-default}
+use lib.ListN.{length, List·getD-eq-default}
 use borrow.Author.Tests.{le-leb, lt-leb}
-use Rattle.laws.specs.Lists.{if_then_else_}
 use Rattle.laws.proofs.Tests.{true-false}
 use Rattle.algebra.specs.Term.{Term, table, var, fact, pair, filter, copy, drop, fix}
 use Rattle.algebra.specs.Columns.{Cols, noCols, Schema, size}
@@ -18,12 +17,11 @@ use Rattle.relation.specs.Rows.{columns}
 use Rattle.database.specs.declared.Database.{Database}
 use Rattle.database.specs.declared.Refusal.the-variants.{NoMatch, Unstable, Used, OpenOperand}
 use Rattle.database.specs.Stored.{schema}
-use Rattle.database.specs.Refusals.{Reply, refused, accepted, require, orRefuse, _>>=_}
-use Rattle.query.specs.declared.Node.{Node}
+use Rattle.database.specs.Refusals.{Reply, accepted, require, orRefuse, _>>=_}
 use Rattle.query.specs.declared.Node.the-variants.{Table}
 use Rattle.query.specs.declared.Query.{Query}
 use Rattle.query.specs.declared.Facts.{Facts}
-use Rattle.query.specs.Lines.{nodeLimit, nodes, lines, read}
+use Rattle.query.specs.Lines.{nodeLimit, nodes, read}
 use Rattle.query.specs.Facts.{visits, factsOf}
 use Rattle.query.specs.Check.{checkOver}
 use Rattle.query.specs.Shape.{root}
@@ -33,8 +31,7 @@ use Rattle.query.proofs.Reading.{size-lines}
 use Rattle.query.proofs.Starts.{size-pos}
 use Rattle.rewrite.specs.Places.{lineAt, startAt, last}
 use Rattle.rewrite.specs.Rewrite.{around, rule, top, endedAt, replaced, withNodes, rewrite}
-use Rattle.matching.specs.declared.Found.{Found}
-use Rattle.matching.specs.Found.{isFix, foundAt, Placed, isFound, stableAt, unusedAt, closedAt, writtenAt, replyTo, stepReply}
+use Rattle.matching.specs.Found.{isFix, foundAt, Placed, stableAt, unusedAt, writtenAt, replyTo, stepReply}
 use Rattle.matching.proofs.Replies.{no-node, past-node, at-node}
 use Rattle.matching.proofs.Standing.{Here, NodeOf, node-of, here-all, here-reads}
 use Rattle.matching.proofs.Loops.{low, here-told, step-start}
@@ -42,20 +39,27 @@ use Rattle.matching.proofs.Matched.{foundOf, found, found-at}
 use Rattle.matching.proofs.Asked.{match-found, stable-is, unused-is, closed-is}
 use Rattle.matching.proofs.RuleWritten.{written-is}
 
--- the tests behind the match, and what is written
-abbrev tests : {A : Type 0} → Bool → Bool → Bool → A → Reply A
-tests s u c a = do
+-- the tests behind the match
+abbrev asked : Bool → Bool → Bool → Reply (Unit {0})
+asked s u c = do
+  _ ← require s Unstable
+  _ ← require u Used
+  require c OpenOperand
+
+-- and what is written
+abbrev answered : {A : Type 0} → Bool → Bool → Bool → A → Reply A
+answered s u c a = do
   _ ← require s Unstable
   _ ← require u Used
   _ ← require c OpenOperand
   accepted a
 
-tests-same : (s u c : Bool) (b : Term) (f : Term → Query) (p : Query) → (c ≡ true → f b ≡ p)
-    → tests s u c b >>= (λ x. accepted (f x)) ≡ tests s u c p
-tests-same false u c b f p h = refl
-tests-same true false c b f p h = refl
-tests-same true true false b f p h = refl
-tests-same true true true b f p h = ap accepted (h refl)
+answers-same : (s u c : Bool) (b : Term) (f : Term → Query) (p : Query) → (c ≡ true → f b ≡ p)
+    → answered s u c b >>= (λ x. accepted (f x)) ≡ asked s u c >>= (λ _. accepted p)
+answers-same false u c b f p h = refl
+answers-same true false c b f p h = refl
+answers-same true true false b f p h = refl
+answers-same true true true b f p h = ap accepted (h refl)
 
 module _ (d : Database) (limit : ℕ) (q : Query) (t : Term) (checked : Checked limit q (schema columns d) t) (counted : length (nodes q) ≡ q .count) (fits : q .count ≤ nodeLimit) where
   abbrev G : Schema
@@ -107,16 +111,16 @@ module _ (d : Database) (limit : ℕ) (q : Query) (t : Term) (checked : Checked 
     replacedBy a b = withNodes q (replaced (nodes q) n a b)
 
     matched-reply : {C : Cols} {s : ℕ} (a : Term) → Here d q t (checked .written) C s a → s + size a ≡ n → (o : Option Match) → match k a ≡ o
-        → (orRefuse o NoMatch >>= (λ m. tests (stableEnough G C m) (unusedEnough G C m) (closedEnough m) (written m))) >>= (λ b. accepted (replacedBy a b))
+        → (orRefuse o NoMatch >>= (λ m. answered (stableEnough G C m) (unusedEnough G C m) (closedEnough m) (written m))) >>= (λ b. accepted (replacedBy a b))
         ≡ replyTo q facts (last s a) (found s o)
     matched-reply a h e none f = refl
     matched-reply {C} {s} a h e (some m) f =
         let r : Here d q t (checked .written) C s (redex m) = subst (Here d q t (checked .written) C s) (matched k a f) h in
         let p : Query = writtenAt q facts (last s a) (foundOf s m) in
-        tests-same (stableEnough G C m) (unusedEnough G C m) (closedEnough m) (written m) (replacedBy a) p
+        answers-same (stableEnough G C m) (unusedEnough G C m) (closedEnough m) (written m) (replacedBy a) p
         (λ c. ap (λ (i : ℕ). withNodes q (replaced (nodes q) i a (written m))) (sym e) ∙ written-is d limit q t checked counted fits a k m h f c)
-        ∙ ap₂ (λ (x y : Bool). tests x y (closedEnough m) p) (sym (stable-is d limit q t checked counted fits m r)) (sym (unused-is d limit q t checked counted fits m r))
-        ∙ ap₂ (λ (b x : Bool). require b NoMatch >>= λ _. tests (stableAt q facts (foundOf s m)) (unusedAt q facts (foundOf s m)) x p)
+        ∙ ap₂ (λ (x y : Bool). asked x y (closedEnough m) >>= λ _. accepted p) (sym (stable-is d limit q t checked counted fits m r)) (sym (unused-is d limit q t checked counted fits m r))
+        ∙ ap₂ (λ (b x : Bool). (require b NoMatch >>= λ _. asked (stableAt q facts (foundOf s m)) (unusedAt q facts (foundOf s m)) x) >>= λ _. accepted p)
         (sym (match-found s m)) (sym (closed-is d limit q t checked counted fits m r))
 
     node-reply : {C : Cols} {s : ℕ} (a : Term) → Here d q t (checked .written) C s a → s + size a ≡ n

@@ -200,14 +200,17 @@ isFound (FixExcept x o) = true
 isFound (DropFix d x) = true
 isFound (FixFix x y) = true
 
--- "12 to 15 in order"
-abbrev pub replyTo : Query → Facts → ℕ → Found → Reply Query
-replyTo q facts i m = do
+-- "12 to 15 in order": what the tests reply to what is found
+abbrev pub judgedAt : Query → Facts → Found → Reply (Unit {0})
+judgedAt q facts m = do
   _ ← require (isFound m) NoMatch
   _ ← require (stableAt q facts m) Unstable
   _ ← require (unusedAt q facts m) Used
-  _ ← require (closedAt facts m) OpenOperand
-  accepted (writtenAt q facts i m)
+  require (closedAt facts m) OpenOperand
+
+-- and what is written
+abbrev pub replyTo : Query → Facts → ℕ → Found → Reply Query
+replyTo q facts i m = judgedAt q facts m >>= λ _. accepted (writtenAt q facts i m)
 
 -- the step of kind k at node n; "Nodes count from 1."
 abbrev pub stepReply : Query → Facts → ℕ → ℕ → Reply Query

@@ -1,33 +1,30 @@
 -- What the lines of a step gather is what document 01 says of its path: the columns that are not stable, and those that are used.
-use mathlib.Core.Path.{_≡_, refl, ap, ap₂, sym, _∙_, subst}
+use mathlib.Core.Path.{_≡_, refl, ap, ap₂, sym, _∙_}
 use mathlib.Core.Bool.{Bool, true, false, not, _||_, _&&_}
-use mathlib.Core.List.{List, [], _∷_}
-use Prim.Native.Nat.{ℕ, zero, suc, _+_, _-_, _<_}
+use Prim.Native.Nat.{ℕ, _+_, _-_, _<_}
 use native.Mathlib.Omega.{arith}
 use lib.Dec.{eqb}
 use Rattle.laws.specs.Lists.{if_then_else_, any, member}
 use Rattle.algebra.specs.declared.Pairing.{Pairing}
-use Rattle.algebra.specs.declared.Pairing.the-variants.{Union, Join, Except}
-use Rattle.algebra.specs.Term.{Term, table, var, fact, pair, filter, copy, drop, fix}
-use Rattle.algebra.specs.Columns.{Cols, noCols, Schema, cols, free, isClosed, size, fixNumbers, named, dropped, beside, used}
-use Rattle.algebra.specs.WellFormed.{Closed, c-table, c-fact, c-pair, c-filter, c-copy, c-drop, c-fix, Path, p-var, p-union, p-left, p-right, p-except, p-filter, p-copy, p-drop}
+use Rattle.algebra.specs.Term.{Term, var, pair}
+use Rattle.algebra.specs.Columns.{Cols, noCols, Schema, cols, isClosed, size, dropped, beside, used}
+use Rattle.algebra.specs.WellFormed.{Closed, Path, p-var, p-union, p-left, p-right, p-except, p-filter, p-copy, p-drop}
 use Rattle.algebra.specs.Rules.{Loop}
 use Rattle.algebra.proofs.Open.{closed-closed, path-open, closed-free}
 use Rattle.algebra.proofs.Typing.{cols-closed}
 use Rattle.algebra.proofs.ColumnSets.{same-at}
 use Rattle.relation.specs.declared.Columns.{Columns}
-use Rattle.relation.specs.Rows.{columns, colsOf, columnsOf}
+use Rattle.relation.specs.Rows.{columns, colsOf}
 use Rattle.database.specs.Stored.{tableLimit}
 use Rattle.query.specs.declared.Node.{Node}
-use Rattle.query.specs.declared.Node.the-variants.{Table, Var, Fact, Pair, Filter, Copy, Drop, Fix}
+use Rattle.query.specs.declared.Node.the-variants.{Fix}
 use Rattle.query.specs.declared.Query.{Query}
 use Rattle.query.specs.declared.Facts.{Facts}
 use Rattle.query.specs.Shape.{root}
 use Rattle.query.proofs.Starts.{size-pos}
 use Rattle.query.proofs.Complete.{path-member}
-use Rattle.rewrite.specs.declared.PathColumns.{PathColumns}
-use Rattle.rewrite.specs.Places.{lineAt, startAt, columnsAt, last, Told, Stands, fixNumber, LoopAt}
-use Rattle.rewrite.specs.Path.{lineDrops, lineUses, onPath, operandAt, besideAt, dropsAt, usesAt, gathered, pathAt, pathColumns}
+use Rattle.rewrite.specs.Places.{lineAt, startAt, last, Told, Stands, fixNumber, LoopAt}
+use Rattle.rewrite.specs.Path.{lineDrops, lineUses, operandAt, besideAt, gathered, pathAt, pathColumns}
 use Rattle.rewrite.proofs.GrownColumns.{columns-same, columns-back}
 use Rattle.rewrite.proofs.OnPath.{along, stands-told, told-path, path-along}
 

@@ -1,11 +1,11 @@
 -- A list written over from an index on: what has been written stands before what has not.
-use mathlib.Core.Path.{_≡_, refl, ap, ap₂, sym, _∙_}
+use mathlib.Core.Path.{_≡_, ap, ap₂, sym, _∙_}
 use mathlib.Core.List.{List, [], _∷_, _++_, append-assoc}
-use Prim.Native.Nat.{ℕ, zero, suc, _+_, _<_}
+use Prim.Native.Nat.{ℕ, _+_, _<_}
 use native.Mathlib.Omega.{arith}
 use native.Mathlib.Numerals.{add-one}
-use lib.ListN.{length, getD, set, take, drop, length-append, length-drop}
-use lib.Seq.{paste, paste-suc, take-at, drop-at, set-at, drop-append-add, drop-drop, drop-cons, length-take-le, append-snoc}
+use lib.ListN.{length, getD, set, take, drop, length-append}
+use lib.Seq.{paste, paste-suc, take-at, drop-at, set-at, drop-append-add, drop-drop, drop-cons, append-snoc}
 
 module _ {A : Type 0} where
   -- a copy of one element more

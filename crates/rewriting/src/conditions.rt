@@ -1,8 +1,12 @@
 // The conditions of what a kind has found: "a column must be stable" (13), "a column must be unused" (14), the other operand must be closed (15).
 use algebra::Condition;
+use database::Refusal;
+use database::Verdict;
 use matching::Found;
 use query::Facts;
 use query::Query;
+use query::first_pass::accept_if;
+use query::first_pass::first_of;
 use query::none_in;
 use relation::COLUMNS;
 use relation::Columns;
@@ -14,10 +18,11 @@ ghost use Prim.Native.Nat.{_<_, _≤_};
 ghost use Rattle.laws.specs.Lists.{every, all};
 ghost use Rattle.algebra.specs.Columns.{named};
 ghost use Rattle.relation.specs.Rows.{columns, colsOf};
+ghost use Rattle.database.specs.Refusals.{verdict};
 ghost use Rattle.query.specs.Lines.{nodeLimit};
 ghost use Rattle.query.specs.FreeSets.{noneIn};
 ghost use Rattle.rewrite.specs.Places.{StartsLow, freeAt};
-ghost use Rattle.matching.specs.Found.{Within, apartAt, filterKept, sharedKept, othersFresh, dropFresh, isFound, stableAt, unusedAt, closedAt};
+ghost use Rattle.matching.specs.Found.{Within, apartAt, filterKept, sharedKept, othersFresh, dropFresh, isFound, stableAt, unusedAt, closedAt, judgedAt};
 
 // Of one column that an operand has: if the fix has it too, or lacks it, it is not marked.
 fn apart_at(shared: bool, fix: Columns, other: Columns, marked: Columns, c: usize) -> bool
@@ -114,7 +119,7 @@ fn is_closed(facts: Facts, i: usize) -> bool
 }
 
 // 12
-pub fn is_found(found: Found) -> bool
+fn is_found(found: Found) -> bool
     ensures { λ r. ⌜ r ≡ isFound found ⌝ }
 {
     match found {
@@ -129,7 +134,7 @@ pub fn is_found(found: Found) -> bool
 }
 
 // 13; "Shared columns are stable in both."
-pub fn stable(query: Query, facts: Facts, found: Found) -> bool
+fn stable(query: Query, facts: Facts, found: Found) -> bool
     requires { ⌜ Within query found × (query .count ≤ nodeLimit) × StartsLow facts ⌝ }
     ensures { λ r. ⌜ r ≡ stableAt query facts found ⌝ }
 {
@@ -151,7 +156,7 @@ pub fn stable(query: Query, facts: Facts, found: Found) -> bool
 }
 
 // 14; "each fix's other columns are not used by the other."
-pub fn unused(query: Query, facts: Facts, found: Found) -> bool
+fn unused(query: Query, facts: Facts, found: Found) -> bool
     requires { ⌜ Within query found × (query .count ≤ nodeLimit) × StartsLow facts ⌝ }
     ensures { λ r. ⌜ r ≡ unusedAt query facts found ⌝ }
 {
@@ -173,7 +178,7 @@ pub fn unused(query: Query, facts: Facts, found: Found) -> bool
 }
 
 // 15; "In 2 to 4 the other operand must be closed."
-pub fn closed(query: Query, facts: Facts, found: Found) -> bool
+fn closed(query: Query, facts: Facts, found: Found) -> bool
     requires { ⌜ Within query found × (query .count ≤ nodeLimit) ⌝ }
     ensures { λ r. ⌜ r ≡ closedAt facts found ⌝ }
 {
@@ -186,4 +191,16 @@ pub fn closed(query: Query, facts: Facts, found: Found) -> bool
         Found::DropFix(_, _) => true,
         Found::FixFix(_, _) => true,
     }
+}
+
+// "12 to 15 in order": the first that is not met.
+pub fn judged(query: Query, facts: Facts, found: Found) -> Verdict
+    requires { ⌜ Within query found × (query .count ≤ nodeLimit) × StartsLow facts ⌝ }
+    ensures { λ r. ⌜ r ≡ verdict (judgedAt query facts found) ⌝ }
+{
+    let matched = accept_if(is_found(found), Refusal::NoMatch);
+    let kept = accept_if(stable(query, facts, found), Refusal::Unstable);
+    let fresh = accept_if(unused(query, facts, found), Refusal::Used);
+    let shut = accept_if(closed(query, facts, found), Refusal::OpenOperand);
+    first_of(first_of(matched, kept), first_of(fresh, shut))
 }

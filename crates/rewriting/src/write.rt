@@ -1,8 +1,5 @@
 // The sheet that a rule writes, and the step of a checked query: 12 to 15 in order.
-use super::conditions::closed;
-use super::conditions::is_found;
-use super::conditions::stable;
-use super::conditions::unused;
+use super::conditions::judged;
 use super::find::find;
 use database::Refusal;
 use database::Verdict;
@@ -75,21 +72,13 @@ fn apply(query: Query, facts: Facts, i: usize, found: Found) -> Rewritten
     requires { ⌜ (i < query .count) × Fits facts i found × (query .count ≤ nodeLimit) × StartsLow facts ⌝ }
     ensures { λ r. ⌜ r ≡ rewritten query (replyTo query facts i found) ⌝ }
 {
-    if !is_found(found) {
-        return refuse(query, Refusal::NoMatch);
-    }
-    if !stable(query, facts, found) {
-        return refuse(query, Refusal::Unstable);
-    }
-    if !unused(query, facts, found) {
-        return refuse(query, Refusal::Used);
-    }
-    if !closed(query, facts, found) {
-        return refuse(query, Refusal::OpenOperand);
-    }
-    Rewritten {
-        query: written(query, facts, i, found),
-        verdict: Verdict::Accepted,
+    let verdict = judged(query, facts, found);
+    match verdict {
+        Verdict::Refused(cause) => refuse(query, cause),
+        Verdict::Accepted => Rewritten {
+            query: written(query, facts, i, found),
+            verdict: Verdict::Accepted,
+        },
     }
 }
 

@@ -1,8 +1,8 @@
 -- The step's lines stand from where it starts to the fix's own line.
 use borrow.Author.Needs.{needs}
 use native.Mathlib.Omega.{arith}
-use Prim.Native.Nat.{ℕ, _≤_, _<_, _-_, _+_}
-use mathlib.Core.Path.{_≡_, ap, ap₂, _∙_}
+use Prim.Native.Nat.{ℕ, _-_}
+use mathlib.Core.Path.{ap, ap₂, _∙_}
 use Rattle.rewrite.specs.Places.{startAt, fixNumber}
 use Rattle.rewrite.specs.Path.{gathered}
 use Rattle.rewrite.proofs.path.path.Statement.{statement}

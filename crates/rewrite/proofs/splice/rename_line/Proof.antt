@@ -1,8 +1,7 @@
 -- Only a var of the number is another line.
 use borrow.Author.Needs.{needs}
 use borrow.Author.Tests.{eq-eqb, ne-eqb}
-use Prim.Native.Nat.{ℕ}
-use mathlib.Core.Path.{_≡_, ap, sym, _∙_}
+use mathlib.Core.Path.{ap, sym, _∙_}
 use mathlib.Core.Bool.{Bool}
 use Rattle.laws.specs.Lists.{if_then_else_}
 use Rattle.query.specs.declared.Node.the-variants.{Var}

@@ -1,13 +1,11 @@
 -- Before line i the lines from the first on are renamed.
-use borrow.Author.Needs.{needs}
 use native.Mathlib.Omega.{arith}
 use Prim.Native.Nat.{ℕ, _≤_, _-_, _+_}
-use mathlib.Core.Path.{_≡_, refl, ap, sym, _∙_}
+use mathlib.Core.Path.{_≡_, ap, sym, _∙_}
 use mathlib.Core.List.{List, map}
 use lib.ListN.{length, set, getD, drop, length-drop, length-map, List·getD-map}
 use lib.Seq.{paste, paste-zero, getD-drop}
 use Rattle.rewrite.proofs.Splices.{copy-more}
-use Rattle.query.specs.declared.Node.{Node}
 use Rattle.query.specs.declared.Line.{Line}
 use Rattle.query.specs.declared.Query.{Query}
 use Rattle.query.specs.Lines.{nodeLimit, line, blank}

@@ -1,11 +1,10 @@
 -- The operand lacks the column, or the fix decides.
 use borrow.Author.Needs.{needs}
-use native.Mathlib.Omega.{arith}
-use Prim.Native.Nat.{ℕ, _+_, _-_, _≤_, _<_}
-use mathlib.Core.Path.{_≡_, refl, ap, ap₂, sym, _∙_, subst}
+use Prim.Native.Nat.{ℕ}
+use mathlib.Core.Path.{_≡_, ap, ap₂, sym, _∙_}
 use mathlib.Core.Bool.{Bool, true, false, not, _&&_, _||_}
 use Rattle.relation.specs.Rows.{columns, colsOf}
-use borrow.Author.Tests.{eq-eqb, ne-eqb, not-true, not-false}
+use borrow.Author.Tests.{not-true, not-false}
 use Rattle.laws.specs.Lists.{_==_}
 use Rattle.relation.specs.declared.Columns.{Columns}
 use Rattle.rewriting.proofs.conditions.apart_at.Statement.{statement}

@@ -1,9 +1,7 @@
 -- The columns dropped are those along the path.
 use borrow.Author.Needs.{needs}
-use native.Mathlib.Omega.{arith}
-use Prim.Native.Nat.{ℕ, _+_, _-_, _≤_, _<_}
-use mathlib.Core.Path.{_≡_, refl, ap, ap₂, sym, _∙_, subst}
-use mathlib.Core.Bool.{Bool, true, false, not, _&&_, _||_}
+use mathlib.Core.Path.{ap, _∙_}
+use mathlib.Core.Bool.{not}
 use Rattle.relation.specs.Rows.{columns, colsOf}
 use Rattle.rewrite.specs.declared.PathColumns.{PathColumns}
 use Rattle.laws.specs.Lists.{every}

@@ -1,11 +1,7 @@
 -- Each kind asks its own.
 use borrow.Author.Needs.{needs}
-use native.Mathlib.Omega.{arith}
-use Prim.Native.Nat.{ℕ, _+_, _-_, _≤_, _<_}
-use mathlib.Core.Path.{_≡_, refl, ap, ap₂, sym, _∙_, subst}
-use mathlib.Core.Bool.{Bool, true, false, not, _&&_, _||_}
-use Rattle.matching.specs.declared.Found.{Found}
-use Rattle.matching.specs.declared.Found.the-variants.{Nothing, FilterFix, FixJoin, JoinFix, FixExcept, DropFix, FixFix}
+use mathlib.Core.Path.{ap, sym, _∙_, subst}
+use mathlib.Core.Bool.{Bool, _&&_}
 use Rattle.matching.specs.Found.{Within, othersFresh, unusedAt}
 use Rattle.rewriting.proofs.conditions.unused.Statement.{statement}
 use Rattle.rewriting.proofs.conditions.unused.Tie as tie

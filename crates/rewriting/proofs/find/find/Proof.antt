@@ -1,9 +1,6 @@
 -- The line decides.
 use borrow.Author.Needs.{needs}
-use native.Mathlib.Omega.{arith}
-use Prim.Native.Nat.{ℕ, _+_, _-_, _≤_, _<_}
-use mathlib.Core.Path.{_≡_, refl, ap, ap₂, sym, _∙_, subst}
-use mathlib.Core.Bool.{Bool, true, false, not, _&&_, _||_}
+use mathlib.Core.Path.{_≡_, ap, sym, _∙_}
 use Rattle.query.specs.declared.Node.{Node}
 use Rattle.matching.specs.Found.{lineFound, foundAt}
 use Rattle.rewriting.proofs.find.find.Statement.{statement}

@@ -1,9 +1,7 @@
 -- The place before the right operand.
 use borrow.Author.Needs.{needs}
-use native.Mathlib.Omega.{arith}
-use Prim.Native.Nat.{ℕ, _+_, _-_, _≤_, _<_}
-use mathlib.Core.Path.{_≡_, refl, ap, ap₂, sym, _∙_, subst}
-use mathlib.Core.Bool.{Bool, true, false, not, _&&_, _||_}
+use Prim.Native.Nat.{ℕ, _-_}
+use mathlib.Core.Path.{ap, _∙_}
 use Rattle.rewrite.specs.Places.{startAt}
 use Rattle.rewriting.proofs.find.left_of.Statement.{statement}
 use Rattle.rewriting.proofs.find.left_of.Tie as tie

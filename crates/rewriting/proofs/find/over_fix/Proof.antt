@@ -1,12 +1,10 @@
 -- The line of the operand decides.
 use borrow.Author.Needs.{needs}
-use native.Mathlib.Omega.{arith}
-use Prim.Native.Nat.{ℕ, _+_, _-_, _≤_, _<_}
-use mathlib.Core.Path.{_≡_, refl, ap, ap₂, sym, _∙_, subst}
-use mathlib.Core.Bool.{Bool, true, false, not, _&&_, _||_}
+use mathlib.Core.Path.{ap, sym, _∙_}
+use mathlib.Core.Bool.{Bool}
 use Rattle.laws.specs.Lists.{if_then_else_}
 use Rattle.matching.specs.declared.Found.{Found}
-use Rattle.matching.specs.declared.Found.the-variants.{Nothing, FilterFix, FixJoin, JoinFix, FixExcept, DropFix, FixFix}
+use Rattle.matching.specs.declared.Found.the-variants.{Nothing}
 use Rattle.matching.specs.Found.{isFix}
 use Rattle.rewriting.proofs.find.over_fix.Statement.{statement}
 use Rattle.rewriting.proofs.find.over_fix.Tie as tie

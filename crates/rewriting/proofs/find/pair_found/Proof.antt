@@ -1,9 +1,6 @@
 -- The pairing decides.
 use borrow.Author.Needs.{needs}
-use native.Mathlib.Omega.{arith}
-use Prim.Native.Nat.{ℕ, _+_, _-_, _≤_, _<_}
-use mathlib.Core.Path.{_≡_, refl, ap, ap₂, sym, _∙_, subst}
-use mathlib.Core.Bool.{Bool, true, false, not, _&&_, _||_}
+use mathlib.Core.Path.{ap, sym, _∙_}
 use Rattle.matching.specs.Found.{pairFound}
 use Rattle.rewriting.proofs.find.pair_found.Statement.{statement}
 use Rattle.rewriting.proofs.find.pair_found.Tie as tie

@@ -1,11 +1,9 @@
 -- A node past the last, or none, matches no rule.
 use borrow.Author.Needs.{needs}
 use native.Mathlib.Omega.{arith}
-use Prim.Native.Nat.{ℕ, _+_, _-_, _≤_, _<_}
-use mathlib.Core.Path.{_≡_, refl, ap, ap₂, sym, _∙_, subst}
-use mathlib.Core.Bool.{Bool, true, false, not, _&&_, _||_}
+use Prim.Native.Nat.{_-_}
+use mathlib.Core.Path.{ap, sym, _∙_, subst}
 use Rattle.rewrite.specs.Rewrite.{rewritten}
-use Rattle.matching.specs.declared.Found.{Found}
 use Rattle.matching.specs.Found.{Fits, replyTo}
 use Rattle.matching.proofs.Fitting.{found-fits}
 use Rattle.matching.proofs.Replies.{no-node, past-node, at-node}

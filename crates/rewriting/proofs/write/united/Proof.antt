@@ -1,9 +1,8 @@
 -- The steps start where the check tells.
 use borrow.Author.Needs.{needs}
 use native.Mathlib.Omega.{arith}
-use Prim.Native.Nat.{ℕ, _+_, _-_, _≤_, _<_}
-use mathlib.Core.Path.{_≡_, refl, ap, ap₂, sym, _∙_, subst}
-use mathlib.Core.Bool.{Bool, true, false, not, _&&_, _||_}
+use Prim.Native.Nat.{ℕ, _-_}
+use mathlib.Core.Path.{_≡_, ap, ap₂, _∙_}
 use Rattle.rewrite.specs.Places.{startAt, fixNumber}
 use Rattle.rewrite.specs.Splices.{withLines, merged}
 use Rattle.query.specs.declared.Query.{Query}
