@@ -40,7 +40,8 @@ module _ (w limit : ℕ) (d : Database) (store : List ℕ) where
     left-same r e [] = refl
     left-same r e (k ∷ []) = refl
     left-same r e (k ∷ (n ∷ l)) =
-        let same : handedBack q (rewrite w limit q d store k n) ≡ q = ap (handedBack q) (rw (rewrite, e)) in
+        let refuses : rewrite w limit q d store k n ≡ refused r = rw (rewrite, e) in
+        let same : handedBack q (rewrite w limit q d store k n) ≡ q = ap (handedBack q) refuses in
         ap (λ p. held w limit p (stepsOver d store l)) same ∙ left-same r e l
 
     pub left-means : (steps : List ℕ) (L budget : ℕ) (workspace lent : List ℕ) (a : Answer)

@@ -62,8 +62,8 @@ module _ {before after : List ℕ} {w : Written} where
   run-ends {x} e set rows lines ended h =
       let a : Answer = ended .answer in
       let text : answerText columns set rows lines ≡ replyText (accepted a) =
-          ap (λ y. answerText columns y rows lines) (ended .cols) ∙ ap (λ y. answerText columns (a .columns) y lines) (ended .found)
-          ∙ ap (answerText columns (a .columns) (a .rows)) (ended .counted) in
+      ap (λ y. answerText columns y rows lines) (ended .cols) ∙ ap (λ y. answerText columns (a .columns) y lines) (ended .found)
+      ∙ ap (answerText columns (a .columns) (a .rows)) (ended .counted) in
       writes-as (sym e ∙ ended .accepts) (record { reply = h .0 ∙ ap (λ y. writeReply y before) text; slice = h .1 ∙ ap (λ y. sliceAfter y before) text })
 
 -- "8,192 bytes a file (else 17)"

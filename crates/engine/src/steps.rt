@@ -44,14 +44,16 @@ pub fn run_rewritten(
     workspace: &mut [u32],
     answer: &mut [u32],
 ) -> Ran
-    ensures reply { λ r. ⌜ r ≡ ranOf columns (runQuery columns (min limit nodeLimit) (leftBy columns (min limit nodeLimit) query database (now (store .entry)) (now (steps .entry)))
-        database (now (store .entry)) rows budget (now (workspace .entry)) (now (answer .entry))) ⌝ }
-    ensures workspace { λ _. ⌜ now (workspace .exit) ≡ workspaceAfter (begin columns (min limit nodeLimit)
+    ensures { λ r. ⌜
+        (r ≡ ranOf columns (runQuery columns (min limit nodeLimit) (leftBy columns (min limit nodeLimit) query database (now (store .entry)) (now (steps .entry)))
+        database (now (store .entry)) rows budget (now (workspace .entry)) (now (answer .entry))))
+        × (now (workspace .exit) ≡ workspaceAfter (begin columns (min limit nodeLimit)
         (leftBy columns (min limit nodeLimit) query database (now (store .entry)) (now (steps .entry)))
-        database (now (store .entry)) rows budget (now (workspace .entry))) (now (workspace .entry)) ⌝ }
-    ensures answer { λ _. ⌜ now (answer .exit) ≡ answerAfter (runQuery columns (min limit nodeLimit)
+        database (now (store .entry)) rows budget (now (workspace .entry))) (now (workspace .entry)))
+        × (now (answer .exit) ≡ answerAfter (runQuery columns (min limit nodeLimit)
         (leftBy columns (min limit nodeLimit) query database (now (store .entry)) (now (steps .entry)))
-        database (now (store .entry)) rows budget (now (workspace .entry)) (now (answer .entry))) (now (answer .entry)) ⌝ }
+        database (now (store .entry)) rows budget (now (workspace .entry)) (now (answer .entry))) (now (answer .entry)))
+        ⌝ }
     ensures meaning { λ r. ⌜ ((found ran : ℕ) → r .outcome ≡ Finished found ran
         → Means columns (min limit nodeLimit) query database (now (store .entry)) (r .columns) (rowsOf columns found (now (answer .exit)))) ⌝ }
 {

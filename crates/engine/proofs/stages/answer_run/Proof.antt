@@ -16,7 +16,7 @@ returns c =
     let x = c .before .before .before .before .before .enum-told .given in
     let r = c .before .before .before .before .before .before .before .before .before .before .run in
     run-stops (roomy-run columns (limits .nodes) (s .query) (s .database) (now (s .store)) (limits .rows) (limits .lines) _ _ refl (omega arith) (omega arith))
-    (r .result) (r .ensures .reply) (x .0 .0) (c .before .before .before .before .outcome-cause .result) (x .1) (c .before .before .before .before .outcome-cause .ensures) (c .before .before .write-refusal .ensures)
+    (r .result) (r .ensures .0 .0) (x .0 .0) (c .before .before .before .before .outcome-cause .result) (x .1) (c .before .before .before .before .outcome-cause .ensures) (c .before .before .write-refusal .ensures)
 
 returns-2 : tie.Need-returns-2
 returns-2 c =
@@ -25,7 +25,7 @@ returns-2 c =
     let r = c .before .before .before .before .before .before .before .before .before .before .before .run in
     run-ends (roomy-run columns (limits .nodes) (s .query) (s .database) (now (s .store)) (limits .rows) (limits .lines) _ _ refl (omega arith) (omega arith))
     _ _ (g .0 .1 .0)
-    (run-ended columns (limits .nodes) (s .query) (s .database) (now (s .store)) (limits .rows) (limits .lines) _ _ (r .result) (r .ensures .reply) _ (r .ensures .answer)
+    (run-ended columns (limits .nodes) (s .query) (s .database) (now (s .store)) (limits .rows) (limits .lines) _ _ (r .result) (r .ensures .0 .0) _ (r .ensures .0 .2)
     (g .0 .0) (g .0 .1 .0) (g .1))
     (c .before .before .write-answer .ensures)
 

@@ -37,11 +37,13 @@ returns c =
     let limit = min (s .limit) nodeLimit in
     let q = leftBy columns limit (s .query) (s .database) (now (s .store)) (now (s .steps)) in
     let e = ends-as limit _ q (s .database) (now (s .store)) (s .rows) (s .budget) (now (s .workspace)) (now (s .answer)) (c .before .before .before .before .before .before .before .rewrite-each .ensures)
-        (r .ensures .reply, r .ensures .workspace, r .ensures .answer) in
-    (e .0, e .1, e .2, λ found ran ended.
-      let x = run-ended columns limit q (s .database) (now (s .store)) (s .rows) (s .budget) (now (s .workspace)) (now (s .answer)) (r .result) (e .0) _ (e .2) found ran ended in
-      means-as columns limit (s .query) (s .database) (now (s .store)) (sym (x .cols)) (sym (x .found))
-      (left-means columns limit (s .database) (now (s .store)) (s .query) (now (s .steps)) (s .rows) (s .budget) (now (s .workspace)) (now (s .answer)) (x .answer) (x .accepts)))
+    (r .ensures .0) in (
+      e,
+      λ found ran ended.
+          let x = run-ended columns limit q (s .database) (now (s .store)) (s .rows) (s .budget) (now (s .workspace)) (now (s .answer)) (r .result) (e .0) _ (e .2) found ran ended in
+          means-as columns limit (s .query) (s .database) (now (s .store)) (sym (x .cols)) (sym (x .found))
+          (left-means columns limit (s .database) (now (s .store)) (s .query) (now (s .steps)) (s .rows) (s .budget) (now (s .workspace)) (now (s .answer)) (x .answer) (x .accepts)),
+    )
 
 pub run-rewritten-spec : {M : Type 1} → statement M
 run-rewritten-spec = tie.close (tie.spec (λ c κs. search needs) (λ c κs. search needs) (λ c. search needs) (λ c. search needs) returns)
