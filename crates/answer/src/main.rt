@@ -18,6 +18,13 @@ fn read_file(name: &[u8], bytes: &mut [u8]) -> usize
     n
 }
 
+// Writes the first bytes of the reply.
+fn print(reply: &[u8], end: usize) {
+    if end <= reply.len() {
+        io::write_all(STDOUT_FILENO, &reply[..end]);
+    }
+}
+
 fn main() {
     let mut sheet = [0u8; ROOM];
     let sheet_end = read_file(b"sheet.txt", &mut sheet);
@@ -35,5 +42,5 @@ fn main() {
     let Written::Bytes(end) = written else {
         return;
     };
-    io::write_all(STDOUT_FILENO, &out[..end]);
+    print(&out, end);
 }
