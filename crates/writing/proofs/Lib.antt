@@ -5,3 +5,4 @@ pub mod PrintedLines
 pub mod QueryLines
 pub mod AnswerLines
 pub mod AnswerRows
+pub mod Rooms

@@ -27,9 +27,13 @@ ghost use Rattle.text.specs.Numbers.{bytes, comma, digits, commaDigits};
 ghost use Rattle.text.specs.Texts.{lineText, columnList, refusalText, queryText, answerText};
 ghost use Rattle.writing.specs.Replies.{writeReply, sliceAfter};
 ghost use Rattle.writing.specs.Output.{Puts};
+ghost use Rattle.writing.specs.Rooms.{refusalRoom, answerRoom};
 
 fn put_refusal(r: Refusal, store: bool, out: &mut [u8]) -> usize
-    ensures { λ n. ⌜ Puts store (refusalText r) 0 (now (out .entry)) n (now (out .exit)) ⌝ }
+    ensures { λ n. ⌜
+        Puts store (refusalText r) 0 (now (out .entry)) n (now (out .exit))
+        × (length (refusalText r) ≤ refusalRoom)
+        ⌝ }
 {
     let number = refusal_number(r) as usize;
     let place = refusal_place(r);
@@ -41,6 +45,7 @@ pub fn write_refusal(r: Refusal, out: &mut [u8]) -> Written
     ensures { λ w. ⌜
         (w ≡ writeReply (refusalText r) (now (out .entry)))
         × (now (out .exit) ≡ sliceAfter (refusalText r) (now (out .entry)))
+        × (length (refusalText r) ≤ refusalRoom)
         ⌝ }
 {
     let size = put_refusal(r, false, out);
@@ -269,6 +274,7 @@ pub fn write_answer(
     ensures { λ w. ⌜
         (w ≡ writeReply (answerText width columns (rowsOf width count (now (rows .entry))) ran) (now (out .entry)))
         × (now (out .exit) ≡ sliceAfter (answerText width columns (rowsOf width count (now (rows .entry))) ran) (now (out .entry)))
+        × (length (answerText width columns (rowsOf width count (now (rows .entry))) ran) ≤ answerRoom width count)
         ⌝ }
 {
     let size = put_answer(columns, rows, count, ran, false, out);

@@ -5,12 +5,17 @@ use Rattle.writing.proofs.writers.write_refusal.Statement.{statement}
 use Rattle.writing.proofs.writers.write_refusal.Tie as tie
 
 returns : tie.Need-returns
-returns c = short-reply (c .before .before .before .put-refusal .ensures) (c .if1 .taken)
+returns c =
+    let p = c .before .before .before .put-refusal .ensures in
+    let r = short-reply (p .0) (c .if1 .taken) in
+    (r .0, r .1, p .1)
 
 returns-2 : tie.Need-returns-2
 returns-2 c =
     let t = c .before .before .before .before in
-    whole-reply (t .before .before .before .put-refusal .ensures) (t .if1 .left) (c .before .before .put-refusal2 .ensures)
+    let p = t .before .before .before .put-refusal .ensures in
+    let r = whole-reply (p .0) (t .if1 .left) (c .before .before .put-refusal2 .ensures .0) in
+    (r .0, r .1, p .1)
 
 pub write-refusal-spec : {M : Type 1} → statement M
 write-refusal-spec =
