@@ -21,7 +21,7 @@ fn read_file(name: &[u8], bytes: &mut [u8]) -> usize
 // Writes the first bytes of the reply.
 fn print(reply: &[u8], end: usize) {
     if end <= reply.len() {
-        io::write_all(STDOUT_FILENO, &reply[..end]);
+        io::write_all(STDOUT_FILENO, &reply[0..end]);
     }
 }
 

@@ -2,7 +2,8 @@
 use mathlib.Core.Path.{_≡_, refl, ap, sym, _∙_, subst}
 use mathlib.Core.Bool.{Bool, true, false, _&&_}
 use mathlib.Core.List.{List}
-use Prim.Native.Nat.{ℕ, _≤_, _<_}
+use Prim.Native.Nat.{ℕ, _+_, _*_, _≤_, _<_}
+use native.Mathlib.Omega.{arith}
 use lib.Dec.{leb}
 use lib.ListN.{length}
 use borrow.Author.Tests.{le-leb, lt-leb}
@@ -17,6 +18,7 @@ use Rattle.database.proofs.Verdicts.{verdict-accepted, verdict-refused}
 use Rattle.writing.specs.declared.Written.{Written}
 use Rattle.text.specs.Texts.{refusalText, answerText}
 use Rattle.writing.specs.Replies.{writeReply, sliceAfter}
+use Rattle.writing.specs.Rooms.{refusalRoom, answerRoom, rowRoom}
 use Rattle.machine.specs.declared.Outcome.{Outcome}
 use Rattle.machine.specs.declared.Outcome.the-variants as outcome
 use Rattle.machine.specs.declared.Ran.{Ran}
@@ -25,21 +27,25 @@ use Rattle.engine.specs.Answer.{limits, replyText, answer}
 use Rattle.engine.specs.Stages.{causeOf, outcomeCause, answerBook, Writes}
 use Rattle.engine.proofs.Ends.{Ended, ran-refused}
 
+-- what `write_refusal` promises
+abbrev pub Refuses : List ℕ → List ℕ → Written → Refusal → Type 0
+Refuses before after w r = (w ≡ writeReply (refusalText r) before) × (after ≡ sliceAfter (refusalText r) before) × (length (refusalText r) ≤ refusalRoom)
+
 module _ {before after : List ℕ} {w : Written} where
   -- a reply is printed
   pub writes-as : {r s : Reply Answer} → s ≡ r → Writes (replyText r) before w after → Writes (replyText s) before w after
   writes-as e h = subst (λ (x : Reply Answer). Writes (replyText x) before w after) (sym e) h
 
   pub writes-refused : {s : Reply Answer} {r : Refusal} → s ≡ refused r
-      → (w ≡ writeReply (refusalText r) before) × (after ≡ sliceAfter (refusalText r) before) → Writes (replyText s) before w after
-  writes-refused e h = writes-as e (record { reply = h .0; slice = h .1 })
+      → Refuses before after w r → Writes (replyText s) before w after
+  writes-refused e h = let few : _ ≤ 32 = h .2 in writes-as e (record { reply = h .0; slice = h .1; fits = omega arith })
 
   -- a stage whose verdict v is that of its reply r refuses; c: the cause that is printed
   pub stops : {A : Type 0} (r : Reply A) (next : A → Reply Answer) (v : Verdict) (x c : Refusal) → v ≡ verdict r → v ≡ Refused x → c ≡ causeOf v
-      → (w ≡ writeReply (refusalText c) before) × (after ≡ sliceAfter (refusalText c) before) → Writes (replyText (r >>= next)) before w after
+      → Refuses before after w c → Writes (replyText (r >>= next)) before w after
   stops r next v x c told refuses is h =
       writes-refused (ap (λ y. y >>= next) (verdict-refused r (sym refuses ∙ told)))
-      (subst (λ (y : Refusal). (w ≡ writeReply (refusalText y) before) × (after ≡ sliceAfter (refusalText y) before)) (is ∙ ap causeOf refuses) h)
+      (subst (Refuses before after w) (is ∙ ap causeOf refuses) h)
 
   -- it accepts
   pub goes-on : {A : Type 0} (r : Reply A) (next : A → Reply Answer) (v : Verdict) → v ≡ verdict r → v ≡ Accepted
@@ -50,21 +56,24 @@ module _ {before after : List ℕ} {w : Written} where
 
   -- the run refuses
   pub run-stops : {x s : Reply Answer} → x ≡ s → (ran : Ran) → ran ≡ ranOf columns x → (r c : Refusal) → ran .outcome ≡ outcome.Refused r → c ≡ outcomeCause (ran .outcome)
-      → (w ≡ writeReply (refusalText c) before) × (after ≡ sliceAfter (refusalText c) before) → Writes (replyText s) before w after
+      → Refuses before after w c → Writes (replyText s) before w after
   run-stops {x} e ran is r c ended cause h =
       writes-refused (sym e ∙ ran-refused columns x r (sym (ap (λ (y : Ran). y .outcome) is) ∙ ended))
-      (subst (λ (y : Refusal). (w ≡ writeReply (refusalText y) before) × (after ≡ sliceAfter (refusalText y) before)) (cause ∙ ap outcomeCause ended) h)
+      (subst (Refuses before after w) (cause ∙ ap outcomeCause ended) h)
 
   -- the run finishes
-  pub run-ends : {x s : Reply Answer} → x ≡ s → (set : Columns) (rows : Rows) (lines : ℕ) → Ended columns x set rows lines
+  pub run-ends : {x s : Reply Answer} → x ≡ s → (n : ℕ) → n ≤ limits .rows → (set : Columns) (rows : Rows) (lines : ℕ) → Ended columns x set rows lines
       → (w ≡ writeReply (answerText columns set rows lines) before) × (after ≡ sliceAfter (answerText columns set rows lines) before)
+      × (length (answerText columns set rows lines) ≤ answerRoom columns n)
       → Writes (replyText s) before w after
-  run-ends {x} e set rows lines ended h =
+  run-ends {x} e n few set rows lines ended h =
       let a : Answer = ended .answer in
       let text : answerText columns set rows lines ≡ replyText (accepted a) =
       ap (λ y. answerText columns y rows lines) (ended .cols) ∙ ap (λ y. answerText columns (a .columns) y lines) (ended .found)
       ∙ ap (answerText columns (a .columns) (a .rows)) (ended .counted) in
-      writes-as (sym e ∙ ended .accepts) (record { reply = h .0 ∙ ap (λ y. writeReply y before) text; slice = h .1 ∙ ap (λ y. sliceAfter y before) text })
+      let long : length (replyText (accepted a)) ≤ answerRoom columns 0 + n * rowRoom columns = rw (← text) (omega (arith, h .2)) in
+      writes-as (sym e ∙ ended .accepts)
+      (record { reply = h .0 ∙ ap (λ y. writeReply y before) text; slice = h .1 ∙ ap (λ y. sliceAfter y before) text; fits = omega arith })
 
 -- "8,192 bytes a file (else 17)"
 module _ (sheet book steps : List ℕ) where

@@ -1,7 +1,7 @@
 -- What `answer` prints from each of its stages on: "It tests file lengths, the book, the sheet, each steps line in turn, then runs".
 use mathlib.Core.Path.{_≡_}
 use mathlib.Core.List.{List}
-use Prim.Native.Nat.{ℕ}
+use Prim.Native.Nat.{ℕ, _≤_}
 use lib.ListN.{length}
 use Rattle.relation.specs.Rows.{columns}
 use Rattle.database.specs.declared.Database.{Database}
@@ -62,7 +62,12 @@ answerBook sheet book steps = do
   ts ← loadTables columns book emptyStore
   answerSheet sheet steps (databaseValue columns ts) (storeAfter (accepted ts) emptyStore)
 
--- a text is written into a lent slice: what is replied, and what the slice holds afterwards
+-- the bytes that `answer` lends for its reply
+abbrev pub replyRoom : ℕ
+replyRoom = 4096
+
+-- a text is written into a lent slice: what is replied, and what the slice holds afterwards; the text fits into what `answer` lends
 pub record Writes (text before : List ℕ) (r : Written) (after : List ℕ) : Type 0 where
   pub reply : r ≡ writeReply text before
   pub slice : after ≡ sliceAfter text before
+  pub fits : length text ≤ replyRoom

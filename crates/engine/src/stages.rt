@@ -18,12 +18,13 @@ use writing::Written;
 use writing::write_answer;
 use writing::write_refusal;
 ghost use mathlib.Core.Path.{_≡_};
+ghost use Prim.Native.Nat.{_≤_};
 ghost use lib.ListN.{length};
 ghost use Rattle.rewrite.specs.Rewrite.{rewritten};
 ghost use Rattle.text.specs.Lines.{whole};
 ghost use Rattle.writing.specs.Replies.{writeReply, sliceAfter};
 ghost use Rattle.engine.specs.Answer.{applySteps, replyText, answerBytes};
-ghost use Rattle.engine.specs.Stages.{causeOf, outcomeCause, answerRun, answerSteps, answerQuery, answerSheet, answerBook, Writes};
+ghost use Rattle.engine.specs.Stages.{causeOf, outcomeCause, answerRun, answerSteps, answerQuery, answerSheet, answerBook, Writes, replyRoom};
 
 pub const NODES_TAKEN: usize = 24;
 
@@ -178,11 +179,12 @@ fn answer_book(sheet: &[u8], book: &[u8], steps: &[u8], out: &mut [u8]) -> Writt
     answer_sheet(sheet, read.database, &store[..], steps, out)
 }
 
-// What `answer` prints, written into a lent slice.
+// What `answer` prints, written into a lent slice; it always fits into the bytes that the program lends.
 pub fn answer(sheet: &[u8], book: &[u8], steps: &[u8], out: &mut [u8]) -> Written
     ensures { λ r. ⌜
         (r ≡ writeReply (answerBytes (now (sheet .entry)) (now (book .entry)) (now (steps .entry))) (now (out .entry)))
         × (now (out .exit) ≡ sliceAfter (answerBytes (now (sheet .entry)) (now (book .entry)) (now (steps .entry))) (now (out .entry)))
+        × (length (answerBytes (now (sheet .entry)) (now (book .entry)) (now (steps .entry))) ≤ replyRoom)
         ⌝ }
 {
     if BYTES_TAKEN < sheet.len() {
