@@ -4,3 +4,4 @@ pub mod OrderBounds
 pub mod Placed
 pub mod Drafting
 pub mod Planned
+pub mod CompileReply

@@ -3,7 +3,9 @@ use database::Verdict;
 use plan::Plan;
 
 mod lines; // lines.rt: the lines themselves
-mod compile; // compile.rt: the plan of a checked query
+mod compiler; // compiler.rt: the plan of a checked query
+
+pub use compiler::compile;
 
 // A plan in the making. In a loop, delta is its delta register and begun the place of its start line; else both are 0. loops: how many loops
 // have begun.
