@@ -1,2 +1,9 @@
 pub mod Fitting
 pub mod Replies
+pub mod Standing
+pub mod Loops
+pub mod Matched
+pub mod Asked
+pub mod Sheets
+pub mod RuleWritten
+pub mod StepExact

@@ -61,7 +61,7 @@ fn written(query: Query, facts: Facts, i: usize, found: Found) -> Query
 }
 
 // "Refusals hand back the sheet as given."
-fn refuse(query: Query, refusal: Refusal) -> Rewritten
+pub fn refuse(query: Query, refusal: Refusal) -> Rewritten
     ensures { λ r. ⌜ r ≡ rewritten query (refused refusal) ⌝ }
 {
     Rewritten {

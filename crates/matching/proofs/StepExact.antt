@@ -1,0 +1,172 @@
+-- On a checked query the step by the indices is document 01's step.
+use mathlib.Core.Path.{_≡_, refl, ap, ap₂, sym, _∙_, subst}
+use mathlib.Core.Bool.{Bool, true, false}
+use mathlib.Core.Option.{Option, some, none}
+use mathlib.Core.List.{List, [], _∷_}
+use Prim.Native.Nat.{ℕ, zero, suc, _+_, _-_, _≤_, _<_}
+use native.Mathlib.Omega.{arith}
+use native.Mathlib.Decide.{decLt}
+use lib.ListN.{length, getD, take, List·getD-eq-default}
+use borrow.Author.Tests.{le-leb, lt-leb}
+use Rattle.laws.specs.Lists.{if_then_else_}
+use Rattle.laws.proofs.Tests.{true-false}
+use Rattle.algebra.specs.Term.{Term, table, var, fact, pair, filter, copy, drop, fix}
+use Rattle.algebra.specs.Columns.{Cols, noCols, Schema, size}
+use Rattle.algebra.specs.Rules.{Match, match, stableEnough, unusedEnough, closedEnough, written}
+use Rattle.algebra.proofs.Redex.{redex, matched}
+use Rattle.relation.specs.Rows.{columns}
+use Rattle.database.specs.declared.Database.{Database}
+use Rattle.database.specs.declared.Refusal.the-variants.{NoMatch, Unstable, Used, OpenOperand}
+use Rattle.database.specs.Stored.{schema}
+use Rattle.database.specs.Refusals.{Reply, refused, accepted, require, orRefuse, _>>=_}
+use Rattle.query.specs.declared.Node.{Node}
+use Rattle.query.specs.declared.Node.the-variants.{Table}
+use Rattle.query.specs.declared.Query.{Query}
+use Rattle.query.specs.declared.Facts.{Facts}
+use Rattle.query.specs.Lines.{nodeLimit, nodes, lines, read}
+use Rattle.query.specs.Facts.{visits, factsOf}
+use Rattle.query.specs.Check.{checkOver}
+use Rattle.query.specs.Shape.{root}
+use Rattle.query.proofs.CheckReply.{Checked}
+use Rattle.query.proofs.CheckedOver.{check-over-iff}
+use Rattle.query.proofs.Reading.{size-lines}
+use Rattle.query.proofs.Starts.{size-pos}
+use Rattle.rewrite.specs.Places.{lineAt, startAt, last}
+use Rattle.rewrite.specs.Rewrite.{around, rule, top, endedAt, replaced, withNodes, rewrite}
+use Rattle.matching.specs.declared.Found.{Found}
+use Rattle.matching.specs.Found.{isFix, foundAt, Placed, isFound, stableAt, unusedAt, closedAt, writtenAt, replyTo, stepReply}
+use Rattle.matching.proofs.Replies.{no-node, past-node, at-node}
+use Rattle.matching.proofs.Standing.{Here, NodeOf, node-of, here-all, here-reads}
+use Rattle.matching.proofs.Loops.{low, here-told, step-start}
+use Rattle.matching.proofs.Matched.{foundOf, found, found-at}
+use Rattle.matching.proofs.Asked.{match-found, stable-is, unused-is, closed-is}
+use Rattle.matching.proofs.RuleWritten.{written-is}
+
+-- the tests behind the match, and what is written
+abbrev tests : {A : Type 0} → Bool → Bool → Bool → A → Reply A
+tests s u c a = do
+  _ ← require s Unstable
+  _ ← require u Used
+  _ ← require c OpenOperand
+  accepted a
+
+tests-same : (s u c : Bool) (b : Term) (f : Term → Query) (p : Query) → (c ≡ true → f b ≡ p)
+    → tests s u c b >>= (λ x. accepted (f x)) ≡ tests s u c p
+tests-same false u c b f p h = refl
+tests-same true false c b f p h = refl
+tests-same true true false b f p h = refl
+tests-same true true true b f p h = ap accepted (h refl)
+
+module _ (d : Database) (limit : ℕ) (q : Query) (t : Term) (checked : Checked limit q (schema columns d) t) (counted : length (nodes q) ≡ q .count) (fits : q .count ≤ nodeLimit) where
+  abbrev G : Schema
+  G = schema columns d
+
+  abbrev facts : Facts
+  facts = factsOf G (visits G noCols [] 0 t)
+
+  sized : size t ≡ q .count
+  sized = sym (size-lines t) ∙ ap length (sym (checked .written)) ∙ counted
+
+  -- node n
+  node : (n : ℕ) → 1 ≤ n → n ≤ q .count → NodeOf d q t (checked .written) noCols 0 t n
+  node n h k = let e = sized in node-of d q t (checked .written) t noCols 0 n h (omega arith) (here-all d q t (checked .written))
+
+  -- of a fix, its step starts behind its seed
+  fix-seeded : {C : Cols} {s : ℕ} (a : Term) → Here d q t (checked .written) C s a → isFix (root a) ≡ true → startAt facts (last s a) < startAt facts (last s a - 1)
+  fix-seeded (table x) h e = true-false (sym e)
+  fix-seeded (var x) h e = true-false (sym e)
+  fix-seeded (fact c x) h e = true-false (sym e)
+  fix-seeded (pair o a b) h e = true-false (sym e)
+  fix-seeded (filter f a) h e = true-false (sym e)
+  fix-seeded (copy c x a) h e = true-false (sym e)
+  fix-seeded (drop c a) h e = true-false (sym e)
+  fix-seeded (fix v a b) h e =
+      let s = here-told d limit q t checked counted fits h .start in
+      let m = step-start d limit q t checked counted fits (record { var = v; seed = a; step = b }) h in
+      let p = size-pos a in
+      omega arith
+
+  pub placed : Placed q facts
+  placed = record { fits = fits; low = low d limit q t checked counted fits; seeded = seeded }
+    where
+      seeded : (y : ℕ) → isFix (lineAt q y) ≡ true → startAt facts y < startAt facts (y - 1)
+      seeded y e = elim (decLt y (q .count)) [
+        | yes h ↦
+            let r = node (y + 1) (omega arith) (omega arith) in
+            let m = r .ends in
+            let p = size-pos (r .term) in
+            let i : last (r .start) (r .term) ≡ y = omega arith in
+            subst (λ (j : ℕ). startAt facts j < startAt facts (j - 1)) i
+            (fix-seeded (r .term) (r .here) (ap isFix (sym (here-told d limit q t checked counted fits (r .here) .line)) ∙ ap (λ (j : ℕ). isFix (lineAt q j)) i ∙ e))
+        | no h ↦ true-false (sym (sym (ap isFix (List·getD-eq-default (nodes q) (Table 0) (omega arith))) ∙ e))
+      ]
+
+  module _ (k n : ℕ) where
+    -- the query with what a rule writes for the node's term
+    abbrev replacedBy : Term → Term → Query
+    replacedBy a b = withNodes q (replaced (nodes q) n a b)
+
+    matched-reply : {C : Cols} {s : ℕ} (a : Term) → Here d q t (checked .written) C s a → s + size a ≡ n → (o : Option Match) → match k a ≡ o
+        → (orRefuse o NoMatch >>= (λ m. tests (stableEnough G C m) (unusedEnough G C m) (closedEnough m) (written m))) >>= (λ b. accepted (replacedBy a b))
+        ≡ replyTo q facts (last s a) (found s o)
+    matched-reply a h e none f = refl
+    matched-reply {C} {s} a h e (some m) f =
+        let r : Here d q t (checked .written) C s (redex m) = subst (Here d q t (checked .written) C s) (matched k a f) h in
+        let p : Query = writtenAt q facts (last s a) (foundOf s m) in
+        tests-same (stableEnough G C m) (unusedEnough G C m) (closedEnough m) (written m) (replacedBy a) p
+        (λ c. ap (λ (i : ℕ). withNodes q (replaced (nodes q) i a (written m))) (sym e) ∙ written-is d limit q t checked counted fits a k m h f c)
+        ∙ ap₂ (λ (x y : Bool). tests x y (closedEnough m) p) (sym (stable-is d limit q t checked counted fits m r)) (sym (unused-is d limit q t checked counted fits m r))
+        ∙ ap₂ (λ (b x : Bool). require b NoMatch >>= λ _. tests (stableAt q facts (foundOf s m)) (unusedAt q facts (foundOf s m)) x p)
+        (sym (match-found s m)) (sym (closed-is d limit q t checked counted fits m r))
+
+    node-reply : {C : Cols} {s : ℕ} (a : Term) → Here d q t (checked .written) C s a → s + size a ≡ n
+        → rule G C k a >>= (λ b. accepted (replacedBy a b)) ≡ replyTo q facts (n - 1) (foundAt q facts k (n - 1))
+    unfolding rule
+    node-reply {C} {s} a h e =
+        let i : last s a ≡ n - 1 = ap (λ (j : ℕ). j - 1) e in
+        matched-reply a h e (match k a) refl ∙ ap (replyTo q facts (last s a)) (sym (found-at d limit q t checked counted fits k a h))
+        ∙ ap (λ (j : ℕ). replyTo q facts j (foundAt q facts k j)) i
+
+    -- what the definition replies for the term of node n
+    abbrev replyOf : Cols → Option Term → Reply Query
+    replyOf C o = orRefuse o NoMatch >>= λ a. rule G C k a >>= λ b. accepted (replacedBy a b)
+
+    past : q .count < n → endedAt (nodes q) n ≡ none
+    unfolding endedAt
+    past h = rw (lt-leb n (length (nodes q)) (omega arith))
+
+    ended : {C : Cols} {s : ℕ} (a : Term) → Here d q t (checked .written) C s a → s + size a ≡ n → n ≤ q .count → endedAt (nodes q) n ≡ some a
+    unfolding endedAt
+    ended a h e i = rw (le-leb n (length (nodes q)) (omega arith)) (ap top (here-reads d q t (checked .written) h n e))
+
+    first : n ≡ 0 → endedAt (nodes q) n ≡ none
+    unfolding endedAt read
+    first e = rw (e, le-leb 0 (length (nodes q)) (omega arith))
+
+    step-reply : replyOf (around G noCols t n) (endedAt (nodes q) n) ≡ stepReply q facts k n
+    step-reply = elim (decLt 0 n) [
+      | no h ↦
+          let e : n ≡ 0 = omega arith in
+          ap (replyOf (around G noCols t n)) (first e) ∙ no-node q facts k n e
+      | yes h ↦ elim (decLt (q .count) n) [
+        | yes i ↦ ap (replyOf (around G noCols t n)) (past i) ∙ past-node q facts k n (λ e. omega arith) i
+        | no i ↦
+            let r = node n (omega arith) (omega arith) in
+            let m : r .start + size (r .term) ≡ n = r .ends ∙ omega arith in
+            ap₂ replyOf (r .is) (ended (r .term) (r .here) m (omega arith)) ∙ node-reply (r .term) (r .here) m ∙ at-node q facts k n (λ e. omega arith) (omega arith)
+      ]
+    ]
+
+-- the definition's step of a query that is checked over a database
+pub step-exact : (limit : ℕ) (q : Query) (d : Database) (store : List ℕ) (t : Term) → checkOver columns limit q d store ≡ accepted t
+    → length (nodes q) ≡ q .count → q .count ≤ nodeLimit → (k n : ℕ)
+    → stepReply q (factsOf (schema columns d) (visits (schema columns d) noCols [] 0 t)) k n ≡ rewrite columns limit q d store k n
+unfolding rewrite
+step-exact limit q d store t e counted fits k n =
+    let checked = check-over-iff columns limit q d store t .0 e .1 in
+    sym (step-reply d limit q t checked counted fits k n) ∙ rw e
+
+pub checked-placed : (limit : ℕ) (q : Query) (d : Database) (store : List ℕ) (t : Term) → checkOver columns limit q d store ≡ accepted t
+    → length (nodes q) ≡ q .count → q .count ≤ nodeLimit
+    → Placed q (factsOf (schema columns d) (visits (schema columns d) noCols [] 0 t))
+checked-placed limit q d store t e counted fits = placed d limit q t (check-over-iff columns limit q d store t .0 e .1) counted fits

@@ -1,0 +1,33 @@
+// "Steps test the book and the sheet as a run does, then 12 to 15 in order."
+use super::write::refuse;
+use super::write::rewrite_checked;
+use checking::check;
+use database::Database;
+use database::Verdict;
+use query::Query;
+use rewrite::Rewritten;
+ghost use mathlib.Core.Path.{_≡_};
+ghost use Prim.Native.Nat.{min};
+ghost use Rattle.relation.specs.Rows.{columns};
+ghost use Rattle.query.specs.Lines.{nodeLimit};
+ghost use Rattle.rewrite.specs.Rewrite.{rewrite, rewritten};
+
+// The step of a kind at a node: the rule's query, or the query as given beside the refusal. No node count over `limit` is taken.
+pub fn rewrite(
+    query: Query,
+    database: Database,
+    store: &[u32],
+    limit: usize,
+    kind: u32,
+    node: u32,
+) -> Rewritten
+    ensures { λ r. ⌜ r ≡ rewritten query (rewrite columns (min limit nodeLimit) query database (now (store .entry)) kind node) ⌝ }
+{
+    let checked = check(query, database, store, limit);
+    let facts = checked.facts;
+    let verdict = checked.verdict;
+    match verdict {
+        Verdict::Refused(cause) => refuse(query, cause),
+        Verdict::Accepted => rewrite_checked(query, facts, kind, node),
+    }
+}
