@@ -25,7 +25,7 @@ def every_crate_is_in_the_readme():
 
 
 def the_width_stands_once():
-    """The number of columns is a parameter: the numeral is given to it in one place, and stands elsewhere only as refusal number 8."""
+    """The number of columns is a parameter: the numeral is given to it in one place; elsewhere it is refusal number 8 and the bytes of `refused=`."""
     found = []
     for path in crate_files("specs"):
         if path.relative_to(TOP / "crates").parts[0] in EXAMPLES:
@@ -33,7 +33,11 @@ def the_width_stands_once():
         for number, line in code_lines(path):
             if re.search(r"(?<![\w.,])8(?![\w.,])", line):
                 found.append((path.relative_to(TOP).as_posix(), line.strip()))
-    allowed = [("crates/relation/specs/Rows.antt", "columns = 8"), ("crates/database/specs/Refusals.antt", "number (HalfOpen n) = 8")]
+    allowed = [
+        ("crates/relation/specs/Rows.antt", "columns = 8"),
+        ("crates/database/specs/Refusals.antt", "number (HalfOpen n) = 8"),
+        ("crates/writing/specs/Rooms.antt", "refusalRoom = lineRoom 8 (numberDigits + 1 + placeDigits)"),
+    ]
     return [f"{path}: {line}" for path, line in found if (path, line) not in allowed] + [
         f"{path}: {line} is missing" for path, line in allowed if (path, line) not in found
     ]

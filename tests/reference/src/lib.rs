@@ -17,6 +17,7 @@ pub mod reading;
 pub mod rewrite;
 pub mod run;
 pub mod selfcheck;
+pub mod steps;
 pub mod term;
 pub mod text;
 pub mod value;

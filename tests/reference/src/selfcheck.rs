@@ -1,8 +1,9 @@
-//! The tests that the program selfcheck and `cargo test` run: the folders of tests/cases and tests/readings here, beside the worked examples and
-//! the properties of random inputs.
+//! The tests that the program selfcheck and `cargo test` run: the folders of tests/cases, tests/readings and tests/steps here, beside the
+//! worked examples and the properties of random inputs.
 
 use crate::answer::answer;
 use crate::reading::reading;
+use crate::steps::steps;
 use std::path::{Path, PathBuf};
 
 /// A test's name, and what was seen or what went wrong.
@@ -18,30 +19,46 @@ pub fn reading_folder() -> PathBuf {
     Path::new(env!("CARGO_MANIFEST_DIR")).join("../readings")
 }
 
+/// The folder tests/steps beside this package.
+pub fn step_folder() -> PathBuf {
+    Path::new(env!("CARGO_MANIFEST_DIR")).join("../steps")
+}
+
 /// One test a folder: `answer` prints its expected.txt. A missing file counts as empty.
 pub fn cases(folder: &Path) -> Vec<Outcome> {
-    folders(folder, "case", "expected.txt", |path| {
+    folders(folder, "case", |path| {
         let file = |name: &str| std::fs::read(path.join(name)).unwrap_or_default();
         answer(&file("sheet.txt"), &file("book.txt"), &file("steps.txt"))
     })
 }
 
-/// One test a folder: what is read of its texts is what its file `expected` says.
+/// One test a folder: what is read of its texts is what its expected.txt says.
 pub fn readings(folder: &Path) -> Vec<Outcome> {
-    folders(folder, "reading", "expected", |path| {
+    folders(folder, "reading", |path| {
         let file = |name: &str| std::fs::read(path.join(name)).ok();
         reading(file("query.txt").as_deref(), file("database.txt").as_deref(), file("step.txt").as_deref())
     })
 }
 
-fn folders(folder: &Path, kind: &str, expected: &str, printed: impl Fn(&Path) -> Vec<u8>) -> Vec<Outcome> {
+/// One test a folder: the sheets that its steps write and the plan are what its expected.txt says.
+pub fn rewritings(folder: &Path) -> Vec<Outcome> {
+    folders(folder, "steps", print_steps_of)
+}
+
+/// What the texts of a folder of tests/steps give. A missing file counts as empty.
+pub fn print_steps_of(folder: &Path) -> Vec<u8> {
+    let file = |name: &str| std::fs::read(folder.join(name)).unwrap_or_default();
+    steps(&file("database.txt"), &file("query.txt"), &file("steps.txt"))
+}
+
+fn folders(folder: &Path, kind: &str, printed: impl Fn(&Path) -> Vec<u8>) -> Vec<Outcome> {
     let Ok(entries) = std::fs::read_dir(folder) else {
         return vec![(folder.display().to_string(), Err("no such folder".to_string()))];
     };
     let mut folders: Vec<PathBuf> = entries.flatten().map(|entry| entry.path()).filter(|path| path.is_dir()).collect();
     folders.sort();
     let outcome = |path: &PathBuf| {
-        let (printed, expected) = (printed(path), std::fs::read(path.join(expected)).unwrap_or_default());
+        let (printed, expected) = (printed(path), std::fs::read(path.join("expected.txt")).unwrap_or_default());
         let result = if printed == expected {
             Ok(String::new())
         } else {

@@ -168,7 +168,7 @@ pub fn read_step(line: &[u8]) -> Option<(u32, u32)> {
     }
 }
 
-fn commas<T: ToString>(numbers: impl IntoIterator<Item = T>) -> String {
+pub fn commas<T: ToString>(numbers: impl IntoIterator<Item = T>) -> String {
     numbers.into_iter().map(|number| number.to_string()).collect::<Vec<_>>().join(",")
 }
 

@@ -2,7 +2,7 @@
 
 use reference::examples::examples;
 use reference::properties::{properties, Coverage};
-use reference::selfcheck::{case_folder, cases, reading_folder, readings, report};
+use reference::selfcheck::{case_folder, cases, reading_folder, readings, report, rewritings, step_folder};
 
 #[test]
 fn every_case_is_answered() {
@@ -14,6 +14,13 @@ fn every_case_is_answered() {
 #[test]
 fn every_reading_is_read() {
     let outcomes = readings(&reading_folder());
+    assert!(!outcomes.is_empty());
+    assert_eq!(report(&outcomes).1, 0);
+}
+
+#[test]
+fn every_list_of_steps_is_applied() {
+    let outcomes = rewritings(&step_folder());
     assert!(!outcomes.is_empty());
     assert_eq!(report(&outcomes).1, 0);
 }

@@ -2,7 +2,7 @@
 
 use reference::examples::examples;
 use reference::properties::{properties, Coverage};
-use reference::selfcheck::{case_folder, cases, reading_folder, readings, report};
+use reference::selfcheck::{case_folder, cases, reading_folder, readings, report, rewritings, step_folder};
 use std::process::ExitCode;
 
 const SEED: u64 = 1;
@@ -22,9 +22,16 @@ fn main() -> ExitCode {
     let mut coverage = Coverage::default();
     let folders = cases(&case_folder());
     let read = readings(&reading_folder());
+    let rewritten = rewritings(&step_folder());
     let worked = examples();
-    println!("{} cases, {} readings, {} examples, {count} seeds from {seed}", folders.len(), read.len(), worked.len());
-    let mut outcomes = [folders, read, worked, properties(seed, count, &mut coverage)].concat();
+    println!(
+        "{} cases, {} readings, {} lists of steps, {} examples, {count} seeds from {seed}",
+        folders.len(),
+        read.len(),
+        rewritten.len(),
+        worked.len()
+    );
+    let mut outcomes = [folders, read, rewritten, worked, properties(seed, count, &mut coverage)].concat();
     // Fewer inputs may miss a kind or a number.
     if count >= COUNT {
         outcomes.push(coverage.outcome());
