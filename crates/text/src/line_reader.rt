@@ -161,15 +161,17 @@ fn read_count(line: &[u8], key: &[u8], most: u32) -> ReadNumber
     }
 }
 
-// A due line with a count, for the readers of other crates too. They give it the cursor behind a line: the line number then fits.
+// A due line with a count, at a cursor of the text.
 pub fn due_count(text: &[u8], c: Cursor, key: &[u8], most: u32) -> DueCount
-    requires { ⌜ Placed c ⌝ }
-    ensures { λ r. ⌜ r ≡ countReply (dueLine (countForm (now (key .entry)) most) (now (text .entry)) c) ⌝ }
+    ensures { λ r. ⌜ (Placed c → r ≡ countReply (dueLine (countForm (now (key .entry)) most) (now (text .entry)) c)) ⌝ }
 {
     let at = c.at;
     let end = find(text, at, b'\n');
     if text.len() <= end {
         return DueCount::Bad;
+    }
+    if end + 1 < c.line {
+        return DueCount::Bad; // no cursor has so high a line
     }
     let ReadNumber::Value(n) = read_count(&text[at..end], key, most) else {
         return DueCount::Bad;

@@ -82,7 +82,7 @@ module _ (c : tie.After-due-count) where
 
   counted : c .due-count .result ≡ countReply count-line
   unfolding bytes
-  counted = c .due-count .ensures
+  counted = c .due-count .ensures (second-placed due-read)
 
 returns-2 : tie.Need-returns-2
 returns-2 c =
@@ -140,5 +140,5 @@ pub read-table-spec : {M : Type 1} → statement M
 read-table-spec =
     tie.close
     (tie.spec (λ c κs. c .before .before .pre .0) (λ c. search needs) (λ c. search needs) (λ c κs. search needs) returns (λ c. search needs) (λ c. search needs)
-    (λ c κs. second-placed (c .before .before .before)) (λ c. search needs) (λ c. search needs) (λ c κs. search needs) returns-2 read-rows-requires
+    (λ c κs. search needs) (λ c. search needs) (λ c. search needs) (λ c κs. search needs) returns-2 read-rows-requires
     (λ c κs. few-columns (due-read (count-read (c .before .before .before .before .before)))) (λ c. search needs) (λ c. search needs) returns-3)

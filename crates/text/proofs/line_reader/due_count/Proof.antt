@@ -34,23 +34,27 @@ module _ (c : tie.Else1) where
   replied o e = due-replied form text cursor countReply end (c .before .find .ensures) (c .if1 .left) o e
 
 missing : tie.Need-returns
-missing c =
+missing c _ =
     let s = c .before .before .before .before .args in
     ap countReply (sym (due-missing (countForm (now (s .key)) (s .most)) (now (s .text)) (s .c) (c .before .find .result) (c .before .find .ensures) (c .if1 .taken)))
 
-returns-2 : tie.Need-returns-2
-returns-2 c =
-    let t = c .before .before .before .before in
-    replied t none (number-none (form t (line t)) (sym (c .enum-told .given .1) ∙ c .before .before .read-count .ensures))
+-- a line ends behind its cursor
+unplaced : tie.Need-returns-2
+unplaced c placed = let e = c .before .before .before .find .ensures in let h = c .if2 .taken in absurd (omega arith)
 
 returns-3 : tie.Need-returns-3
-returns-3 c =
+returns-3 c _ =
     let t = c .before .before .before .before .before .before in
+    replied t none (number-none (form t (line t)) (sym (c .enum-told .given .1) ∙ c .before .before .read-count .ensures))
+
+returns-4 : tie.Need-returns-4
+returns-4 c _ =
+    let t = c .before .before .before .before .before .before .before .before in
     let g = c .before .before .n .given in
     replied t (some (g .0 .0)) (number-some (form t (line t)) (g .0 .0) (sym (g .1) ∙ c .before .before .before .before .read-count .ensures))
 
 pub due-count-spec : {M : Type 1} → statement M
 due-count-spec =
     tie.close
-    (tie.spec (λ c κs. search needs) missing (λ c. search needs) (λ c. search needs) (λ c. search needs) (λ c κs. search needs)
-    (λ c. search needs) (λ c. search needs) returns-2 (λ c. omega arith) (λ c. omega arith) returns-3)
+    (tie.spec (λ c κs. search needs) missing (λ c. omega arith) unplaced (λ c. search needs) (λ c. search needs) (λ c. search needs) (λ c κs. search needs)
+    (λ c. search needs) (λ c. search needs) returns-3 (λ c. omega arith) (λ c. omega arith) returns-4)

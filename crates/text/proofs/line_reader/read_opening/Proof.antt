@@ -35,8 +35,8 @@ second c =
     let g = c .before .second .given in
     word-next (header (c .before .before .before .before .before .before .before)) (g .0 .0) (sym (g .1) ∙ c .before .before .before .due-word .ensures)
 
-due-count-requires : tie.Need-due-count-requires
-due-count-requires c κs =
+second-placed : (c : tie.After-known-told) → Placed (c .before .second .given .0 .0)
+second-placed c =
     let s = c .before .before .before .before .before .before .before in
     due-placed (wordForm (bytes "guide=1")) (text s) start (tt, c .before .second .given .0 .0) (second c) (omega arith)
 
@@ -56,16 +56,16 @@ module _ (c : tie.After-due-count) where
 returns-2 : tie.Need-returns-2
 returns-2 c =
     let t = c .before .before in
-    replied t none (count-bad (line t) (sym (c .enum-told2 .given .1) ∙ t .due-count .ensures))
+    replied t none (count-bad (line t) (sym (c .enum-told2 .given .1) ∙ t .due-count .ensures (second-placed (t .before))))
 
 returns-3 : tie.Need-returns-3
 returns-3 c =
     let t = c .before .before .before in
     let g = c .before .n .given in
-    replied t (some (g .0 .0, g .0 .1 .0)) (count-next (line t) (g .0 .0) (g .0 .1 .0) (sym (g .1) ∙ t .due-count .ensures))
+    replied t (some (g .0 .0, g .0 .1 .0)) (count-next (line t) (g .0 .0) (g .0 .1 .0) (sym (g .1) ∙ t .due-count .ensures (second-placed (t .before))))
 
 pub read-opening-spec : {M : Type 1} → statement M
 read-opening-spec =
     tie.close
     (tie.spec (λ c. search needs) (λ c κs. search needs) (λ c. search needs) (λ c. search needs) returns
-    due-count-requires (λ c. search needs) (λ c. search needs) returns-2 returns-3)
+    (λ c κs. search needs) (λ c. search needs) (λ c. search needs) returns-2 returns-3)
