@@ -18,7 +18,8 @@ use Rattle.machine.specs.declared.Outcome.the-variants.{Finished, Refused}
 use Rattle.machine.specs.declared.Ran.{Ran}
 use Rattle.machine.specs.Run.{Answer, runQuery, ranOf, answerAfter}
 use Rattle.engine.proofs.FewRows.{few-answer}
-use Rattle.engine.proofs.RunIsMeaning.{executed, run-is-meaning}
+use Rattle.run.proofs.Meaning.{executed}
+use Rattle.engine.proofs.RunIsMeaning.{run-is-meaning}
 
 pub ran-refused : (w : ℕ) (x : Reply Answer) (r : Refusal) → ranOf w x .outcome ≡ Refused r → x ≡ refused r
 ran-refused w (refused s) r e = ap refused cc

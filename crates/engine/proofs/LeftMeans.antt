@@ -16,7 +16,7 @@ use Rattle.rewrite.specs.Rewrite.{rewrite, handedBack, held}
 use Rattle.machine.specs.Run.{Answer, runQuery}
 use Rattle.run.specs.Answered.{Means}
 use Rattle.engine.specs.Demands.{stepsOver, leftBy}
-use Rattle.engine.proofs.RunIsMeaning.{executed}
+use Rattle.run.proofs.Meaning.{executed}
 use Rattle.engine.proofs.RewritesInvisible.{OverColumns, rewrites-invisible}
 
 pub means-as : (w limit : ℕ) (q : Query) (d : Database) (store : List ℕ) {set set′ : Columns} {rows rows′ : Rows} → set ≡ set′ → rows ≡ rows′

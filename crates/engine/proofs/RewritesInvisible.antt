@@ -24,7 +24,8 @@ use Rattle.query.proofs.CheckedOver.{check-over-iff}
 use Rattle.rewrite.specs.Rewrite.{Step, held}
 use Rattle.rewrite.proofs.Held.{Kept, kept-all}
 use Rattle.machine.specs.Run.{Answer, runQuery}
-use Rattle.engine.proofs.RunIsMeaning.{executed, run-is-meaning}
+use Rattle.run.proofs.Meaning.{executed}
+use Rattle.engine.proofs.RunIsMeaning.{run-is-meaning}
 use Rattle.engine.specs.Demands.{Answers}
 
 -- each step's book has the columns of the book d
