@@ -85,19 +85,73 @@ def contract(lines):
     return " ".join(taken)
 
 
+BLOCK = r"```\n((?:(?!```).*\n)*)```\n"
+EXAMPLE = re.compile(
+    rf"Case `([\w-]+)`(?:, with the step `([^`\n]*)`)?(?:, Reach |:\n\n{BLOCK}\n)(?:over the book:?\n\n{BLOCK}\n)?prints\n\n{BLOCK}"
+)
+PROVED = re.compile(rf"Proved case of `([\w/.]+)`:\n\n{BLOCK}")
+
+
 def the_pages_show_the_cases():
-    """Each example of docs/WHY.md is a test case, word for word: its sheet, its step and what it prints."""
-    page = (TOP / "docs" / "WHY.md").read_text()
+    """Each example of docs/WHY.md and docs/EDITORS.md is a test case, and each section has an example refused and one accepted."""
     bad = []
-    found = re.findall(r"Case `([\w-]+)`, with the step `([^`]*)`:\n\n```\n(.*?)```\n\nprints\n\n```\n(.*?)```", page, re.S)
-    for name, step, sheet, printed in found:
-        case = TOP / "tests" / "cases" / name
-        for file, text in (("sheet.txt", sheet), ("steps.txt", step + "\n"), ("expected.txt", printed)):
-            if not case.is_dir() or (case / file).read_text() != text:
-                bad.append(f"docs/WHY.md: {name} is not what tests/cases/{name}/{file} says")
-    if len(found) < 12:
-        bad.append("docs/WHY.md shows fewer than two examples for each of the six kinds")
+    for page, last, refused in (("WHY.md", 6, "refused="), ("EDITORS.md", 19, "refused={},")):
+        text = (TOP / "docs" / page).read_text()
+        bad += [f"docs/{page}: {complaint}" for complaint in shown_wrongly(text) + sections_without_examples(text, last, refused)]
     return bad
+
+
+def shown_wrongly(text):
+    """What a page shows of a case is in its folder word for word: the sheet, the book, the step and what is printed.
+
+    A sheet or a book that isn't shown is that of the case reach; a step that isn't named isn't there.
+    """
+    parts = [(name, "expected.txt", printed + "\n") for name, printed in re.findall(r"`([\w-]+)` prints `([^`\n]*)`", text)]
+    found = EXAMPLE.findall(text)
+    for name, step, sheet, book, printed in found:
+        parts.append((name, "sheet.txt", sheet or case_text("reach", "sheet.txt")))
+        parts.append((name, "book.txt", book or case_text("reach", "book.txt")))
+        parts.append((name, "steps.txt", step and step + "\n"))
+        parts.append((name, "expected.txt", printed))
+    bad = [f"{name} is not what tests/cases/{name}/{file} says" for name, file, part in parts if not shows(part, case_text(name, file))]
+    bad += [f"there is no case {name}" for name in re.findall(r"case `([^`\n]*)`", text) if not case_text(name, "expected.txt")]
+    proved = PROVED.findall(text)
+    bad += [f"{path} does not say {part.strip()}" for path, part in proved if part.strip() not in (TOP / path).read_text()]
+    if len(found) != text.count("Case `") or len(proved) != text.count("Proved case of `"):
+        bad.append("an example is off the form")
+    return bad
+
+
+def sections_without_examples(text, last, refused):
+    """The sections are numbered from 1 on. A number that no case is refused with has two proved cases instead of the examples."""
+    sections = re.split(r"^## (?:Kind )?(\d+)\. ", text, flags=re.M)[1:]
+    numbers = sections[::2]
+    bad = [] if numbers == [str(number) for number in range(1, last + 1)] else [f"the sections are not 1 to {last}"]
+    every = [path.read_text() for path in (TOP / "tests" / "cases").glob("*/expected.txt")]
+    for number, section in zip(numbers, sections[1::2]):
+        outcomes = [example[-1] for example in EXAMPLE.findall(section)]
+        needed = [refused.format(number), "guide="]
+        if begins(every, needed[0]) or len(PROVED.findall(section)) < 2:
+            bad += [f"section {number} has no example that prints {start}" for start in needed if not begins(outcomes, start)]
+    return bad
+
+
+def begins(texts, start):
+    return any(text.startswith(start) for text in texts)
+
+
+def case_text(name, file):
+    """A file of a case; one that isn't there is empty."""
+    path = TOP / "tests" / "cases" / name / file
+    return path.read_bytes().decode("ascii") if path.is_file() else ""
+
+
+def shows(part, text):
+    """Whether a part of a page is the text; the line `...` stands for lines left out."""
+    first, left_out, last = part.partition("\n...\n")
+    if not left_out:
+        return part == text
+    return text.startswith(first + "\n") and text.endswith("\n" + last) and len(text) > len(first + last) + 1
 
 
 TESTS = [
