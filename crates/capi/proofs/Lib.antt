@@ -1,0 +1,4 @@
+pub mod Blocks
+pub mod FlatQueries
+pub mod Rooms
+pub mod Replies
