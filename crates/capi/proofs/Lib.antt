@@ -2,3 +2,5 @@ pub mod Blocks
 pub mod FlatQueries
 pub mod Rooms
 pub mod Replies
+pub mod BitSets
+pub mod RunReplies

@@ -11,8 +11,10 @@ use Rattle.database.specs.Refusals.{Reply, refused, accepted, require, _>>=_}
 use Rattle.query.specs.declared.Node.{Node}
 use Rattle.query.specs.declared.Query.{Query}
 use Rattle.query.specs.Check.{checkOver}
+use Rattle.rewrite.specs.Rewrite.{rewrite}
+use Rattle.machine.specs.Run.{Answer, begin, runQuery}
 use Rattle.text.specs.Texts.{readNodes}
-use Rattle.capi.specs.Flat.{queryRoom, queryOf, flatNodes, over, databaseRoom, databaseOf}
+use Rattle.capi.specs.Flat.{queryRoom, queryOf, flatNodes, over, databaseRoom, databaseOf, runRoom}
 
 -- "lent slice short": a slice with less than the layout's room, before anything else is tested
 abbrev pub roomFor : ℕ → List ℕ → Reply (Unit {0})
@@ -39,3 +41,16 @@ readFlat limit text query = do
 -- "A sheet is checked over a book if neither gets a number from 1 to 11."
 abbrev pub checkFlat : ℕ → List ℕ → List ℕ → List ℕ → Reply Term
 checkFlat limit query database store = withFlat query database (λ q d. checkOver columns limit q d store)
+
+-- "Steps test the book and the sheet as a run does, then 12 to 15 in order."
+abbrev pub rewriteFlat : ℕ → List ℕ → List ℕ → List ℕ → ℕ → ℕ → Reply Query
+rewriteFlat limit query database store kind node = withFlat query database (λ q d. rewrite columns limit q d store kind node)
+
+-- a run, with three entries for what it tells
+module _ (limit : ℕ) (query database store : List ℕ) (rows budget : ℕ) (workspace out : List ℕ) where
+  -- the term that is run once it begins
+  abbrev pub beginFlat : Reply Term
+  beginFlat = withFlat query database (λ q d. roomFor runRoom out >>= λ _. begin columns limit q d store rows budget workspace)
+
+  abbrev pub runFlat : List ℕ → Reply Answer
+  runFlat answer = withFlat query database (λ q d. roomFor runRoom out >>= λ _. runQuery columns limit q d store rows budget workspace answer)

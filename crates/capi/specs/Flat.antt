@@ -11,7 +11,7 @@ use Rattle.algebra.specs.declared.Condition.{Condition}
 use Rattle.algebra.specs.declared.Condition.the-variants.{Eq, Ne, Max, Same}
 use Rattle.algebra.specs.Columns.{Cols, noCols}
 use Rattle.relation.specs.declared.Columns.{Columns}
-use Rattle.relation.specs.Rows.{columns, columnsOf}
+use Rattle.relation.specs.Rows.{columns, colsOf, columnsOf}
 use Rattle.database.specs.declared.Database.{Database}
 use Rattle.database.specs.declared.Verdict.{Verdict}
 use Rattle.database.specs.declared.Verdict.the-variants.{Accepted, Refused}
@@ -21,6 +21,10 @@ use Rattle.query.specs.declared.Node.{Node}
 use Rattle.query.specs.declared.Node.the-variants.{Table, Var, Fact, Pair, Filter, Copy, Drop, Fix}
 use Rattle.query.specs.declared.Query.{Query}
 use Rattle.query.specs.Lines.{nodeLimit, nodes, line}
+use Rattle.machine.specs.declared.Outcome.{Outcome}
+use Rattle.machine.specs.declared.Outcome.the-variants.{Finished}
+use Rattle.machine.specs.declared.Outcome.the-variants as run
+use Rattle.machine.specs.Run.{Answer}
 use Rattle.capi.specs.declared.FlatLine.{FlatLine}
 
 -- "values 0–4,294,967,295": the highest number that an entry holds; a higher one is written as this
@@ -112,6 +116,9 @@ unfoldable pub bitSet : ℕ → Cols → ℕ
 bitSet zero D = 0
 bitSet (suc c) D = bitSet c D + (if D c then 2 ^ c else 0)
 
+abbrev pub bitsOf : Columns → ℕ
+bitsOf s = bitSet columns (colsOf columns s)
+
 -- a database: its table count, then two entries a table, its columns and its row count
 abbrev pub tableWidth : ℕ
 tableWidth = 2
@@ -126,3 +133,14 @@ databaseOf s =
       columns = tabulate (λ t. columnSet columns (getD s (1 + tableWidth * t) 0)) tableLimit;
       rows = tabulate (λ t. getD s (2 + tableWidth * t) 0) tableLimit;
     }
+
+-- a finished run: the columns of the answer, its row count, and the lines run
+abbrev pub runRoom : ℕ
+runRoom = 3
+
+abbrev pub flatRun : Answer → List ℕ
+flatRun a = bitsOf (a .columns) ∷ (entry (length (a .rows)) ∷ (a .ran ∷ []))
+
+abbrev pub outcomeStatus : Outcome → ℕ
+outcomeStatus (Finished rows ran) = 0
+outcomeStatus (run.Refused r) = status (Refused r)

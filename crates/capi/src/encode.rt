@@ -7,17 +7,21 @@ use database::Refusal;
 use database::Verdict;
 use database::refusal_number;
 use database::refusal_place;
+use machine::Outcome;
 use query::NODES;
 use query::Node;
 use query::Query;
+use relation::COLUMNS;
+use relation::Columns;
 ghost use mathlib.Core.Path.{_≡_};
 ghost use Prim.Native.Nat.{_<_, _≤_, _+_, _*_, min};
 ghost use mathlib.Core.List.{[], _∷_};
 ghost use lib.ListN.{length};
 ghost use lib.Seq.{sets};
+ghost use Rattle.laws.specs.Lists.{if_then_else_};
 ghost use Rattle.database.specs.Refusals.{number, placeOf};
 ghost use Rattle.query.specs.Lines.{nodeLimit};
-ghost use Rattle.capi.specs.Flat.{entry, status, statusBase, pairLine, filterLine, flatLine, queryRoom, flatQuery, over};
+ghost use Rattle.capi.specs.Flat.{entry, status, statusBase, pairLine, filterLine, flatLine, queryRoom, flatQuery, over, bitsOf, outcomeStatus, runRoom};
 
 // What an entry holds of a number.
 pub fn entry(n: usize) -> u32
@@ -127,4 +131,45 @@ pub fn encode_query(query: Query, out: &mut [u32])
         put_line(flat_line(node), out, 1 + LINE_ENTRIES * i);
     }
     out[0] = entry(count);
+}
+
+fn worth_if(has: bool, worth: u32) -> u32
+    ensures { λ r. ⌜ r ≡ (if has then worth else 0) ⌝ }
+{
+    if has { worth } else { 0 }
+}
+
+// A set of columns as a number: column c is worth 2^c.
+pub fn bits_of(set: Columns) -> u32
+    ensures { λ r. ⌜ r ≡ bitsOf set ⌝ }
+{
+    let mut bits: u32 = 0;
+    let mut worth: u32 = 1;
+    for c in 0..COLUMNS {
+        bits = bits + worth_if(set.has[c], worth);
+        worth = worth * 2;
+    }
+    bits
+}
+
+pub fn outcome_status(outcome: Outcome) -> u64
+    ensures { λ r. ⌜ r ≡ outcomeStatus outcome ⌝ }
+{
+    match outcome {
+        Outcome::Finished { rows: _, ran: _ } => 0,
+        Outcome::Refused(refusal) => refused(refusal),
+    }
+}
+
+// Writes what a finished run tells.
+pub fn encode_run(columns: Columns, rows: usize, ran: u32, out: &mut [u32])
+    requires { ⌜ runRoom ≤ length (now out) ⌝ }
+    ensures { λ _. ⌜ now (out .exit) ≡ over (bitsOf columns ∷ (entry rows ∷ (ran ∷ []))) (now (out .entry)) ⌝ }
+{
+    let told = FlatLine {
+        code: bits_of(columns),
+        a: entry(rows),
+        b: ran,
+    };
+    put_line(told, out, 0);
 }

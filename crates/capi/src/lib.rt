@@ -7,6 +7,8 @@
 // A database takes DATABASE_ROOM entries: its table count, then for each of TABLES tables its columns, column c with worth 2^c, and its row count.
 // A column over the highest makes the table off the form (11 with its number).
 //
+// A run tells three entries: the columns of its answer as above, its row count, and the lines run.
+//
 // A call returns 0 if it accepts, else the refusal's number times 2^32 and its place; a place over 4,294,967,295 is given as that. A flat slice
 // below its room gives 17 before any other test.
 mod calls;
@@ -15,6 +17,8 @@ mod encode;
 
 pub use calls::capeshard_check;
 pub use calls::capeshard_read_query;
+pub use calls::capeshard_rewrite;
+pub use calls::capeshard_run;
 use database::TABLES;
 use query::NODES;
 
@@ -25,6 +29,8 @@ pub const QUERY_ROOM: usize = 1 + LINE_ENTRIES * NODES;
 pub const TABLE_ENTRIES: usize = 2;
 
 pub const DATABASE_ROOM: usize = 1 + TABLE_ENTRIES * TABLES;
+
+pub const RUN_ROOM: usize = 3;
 
 // A node line as a code and two numbers.
 pub struct FlatLine {
