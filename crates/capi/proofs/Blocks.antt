@@ -21,6 +21,10 @@ module _ (xs s : List ℕ) where
       ∙ ap (λ (r : List ℕ). xs ++ vs ++ r)
       (drop-append-add xs (drop (length xs) s) (length vs) ∙ drop-drop (length vs) (length xs) s ∙ ap (λ n. drop n s) (sym (length-append xs vs)))
 
+-- two stores in a row
+pub two : (l : List ℕ) (at a b : ℕ) → set (set l at a) (at + 1) b ≡ sets l at (a ∷ (b ∷ []))
+two l at a b = ap (λ n. set (set l at a) n b) {x = at + 1} {y = suc at} (omega arith)
+
 -- three stores in a row
 pub three : (l : List ℕ) (at a b c : ℕ) → set (set (set l at a) (at + 1) b) (at + 2) c ≡ sets l at (a ∷ (b ∷ (c ∷ [])))
 three l at a b c =

@@ -13,8 +13,9 @@ use Rattle.query.specs.declared.Query.{Query}
 use Rattle.query.specs.Check.{checkOver}
 use Rattle.rewrite.specs.Rewrite.{rewrite}
 use Rattle.machine.specs.Run.{Answer, begin, runQuery}
-use Rattle.text.specs.Texts.{readNodes}
-use Rattle.capi.specs.Flat.{queryRoom, queryOf, flatNodes, over, databaseRoom, databaseOf, runRoom}
+use Rattle.text.specs.Texts.{Table, readNodes, databaseValue}
+use Rattle.text.specs.Replies.{loadTables}
+use Rattle.capi.specs.Flat.{queryRoom, queryOf, flatNodes, over, databaseRoom, databaseOf, flatDatabase, runRoom}
 
 -- "lent slice short": a slice with less than the layout's room, before anything else is tested
 abbrev pub roomFor : ℕ → List ℕ → Reply (Unit {0})
@@ -37,6 +38,15 @@ abbrev pub readFlat : ℕ → List ℕ → List ℕ → Reply (List Node)
 readFlat limit text query = do
   _ ← roomFor queryRoom query
   readNodes columns limit text
+
+-- reading a book's text into a flat database, its rows into a store
+abbrev pub loadFlat : List ℕ → List ℕ → List ℕ → Reply (List Table)
+loadFlat text database store = do
+  _ ← roomFor databaseRoom database
+  loadTables columns text store
+
+abbrev pub flatTables : List Table → List ℕ
+flatTables ts = flatDatabase (databaseValue columns ts)
 
 -- "A sheet is checked over a book if neither gets a number from 1 to 11."
 abbrev pub checkFlat : ℕ → List ℕ → List ℕ → List ℕ → Reply Term

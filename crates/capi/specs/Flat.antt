@@ -15,7 +15,7 @@ use Rattle.relation.specs.Rows.{columns, colsOf, columnsOf}
 use Rattle.database.specs.declared.Database.{Database}
 use Rattle.database.specs.declared.Verdict.{Verdict}
 use Rattle.database.specs.declared.Verdict.the-variants.{Accepted, Refused}
-use Rattle.database.specs.Stored.{tableLimit}
+use Rattle.database.specs.Stored.{tableLimit, tableCols, rowCount}
 use Rattle.database.specs.Refusals.{number, placeOf}
 use Rattle.query.specs.declared.Node.{Node}
 use Rattle.query.specs.declared.Node.the-variants.{Table, Var, Fact, Pair, Filter, Copy, Drop, Fix}
@@ -133,6 +133,15 @@ databaseOf s =
       columns = tabulate (λ t. columnSet columns (getD s (1 + tableWidth * t) 0)) tableLimit;
       rows = tabulate (λ t. getD s (2 + tableWidth * t) 0) tableLimit;
     }
+
+abbrev pub tableOf : Database → ℕ → List ℕ
+tableOf d t = bitsOf (columnsOf columns (tableCols columns d t)) ∷ (entry (rowCount columns d t) ∷ [])
+
+abbrev pub tableNumbers : Database → List ℕ
+tableNumbers d = tabulate (λ t. t) (min (d .tables) tableLimit)
+
+abbrev pub flatDatabase : Database → List ℕ
+flatDatabase d = length (tableNumbers d) ∷ flatMap (tableOf d) (tableNumbers d)
 
 -- a finished run: the columns of the answer, its row count, and the lines run
 abbrev pub runRoom : ℕ

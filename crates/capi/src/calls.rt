@@ -4,6 +4,7 @@ use super::QUERY_ROOM;
 use super::RUN_ROOM;
 use super::decode::decode_database;
 use super::decode::decode_query;
+use super::encode::encode_database;
 use super::encode::encode_query;
 use super::encode::encode_run;
 use super::encode::outcome_status;
@@ -15,9 +16,10 @@ ghost use mathlib.Core.Path.{_≡_};
 ghost use Prim.Native.Nat.{min};
 ghost use Rattle.database.specs.Refusals.{verdict};
 ghost use Rattle.query.specs.Lines.{nodeLimit};
+ghost use Rattle.text.specs.Replies.{storeAfter};
 ghost use Rattle.machine.specs.Run.{workspaceAfter, answerAfter};
 ghost use Rattle.capi.specs.Flat.{status, flatNodes, flatQuery, flatRun};
-ghost use Rattle.capi.specs.Calls.{after, readFlat, checkFlat, rewriteFlat, beginFlat, runFlat};
+ghost use Rattle.capi.specs.Calls.{after, readFlat, loadFlat, flatTables, checkFlat, rewriteFlat, beginFlat, runFlat};
 
 // Reads a sheet's text into a flat query.
 #[no_mangle]
@@ -36,6 +38,31 @@ pub extern "C" fn capeshard_read_query(text: &[u8], limit: usize, query: &mut [u
         return status(verdict);
     };
     encode_query(read.query, query);
+    0
+}
+
+// Reads a book's text into a flat database, its rows into a store.
+#[no_mangle]
+pub extern "C" fn capeshard_read_database(
+    text: &[u8],
+    database: &mut [u32],
+    store: &mut [u32],
+) -> u64
+    ensures { λ r. ⌜
+        (r ≡ status (verdict (loadFlat (now (text .entry)) (now (database .entry)) (now (store .entry)))))
+        × (now (database .exit) ≡ after flatTables (loadFlat (now (text .entry)) (now (database .entry)) (now (store .entry))) (now (database .entry)))
+        × (now (store .exit) ≡ storeAfter (loadFlat (now (text .entry)) (now (database .entry)) (now (store .entry))) (now (store .entry)))
+        ⌝ }
+{
+    if database.len() < DATABASE_ROOM {
+        return status(Verdict::Refused(Refusal::ShortSlice));
+    }
+    let read = loading::read_database(text, store);
+    let verdict = read.verdict;
+    let Verdict::Accepted = verdict else {
+        return status(verdict);
+    };
+    encode_database(read.database, database);
     0
 }
 

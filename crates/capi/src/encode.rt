@@ -1,12 +1,17 @@
 // From values to flat slices.
 use super::FlatLine;
 use super::LINE_ENTRIES;
+use super::TABLE_ENTRIES;
 use algebra::Condition;
 use algebra::Pairing;
+use database::Database;
 use database::Refusal;
+use database::TABLES;
 use database::Verdict;
 use database::refusal_number;
 use database::refusal_place;
+use database::row_count;
+use database::table_columns;
 use machine::Outcome;
 use query::NODES;
 use query::Node;
@@ -20,8 +25,9 @@ ghost use lib.ListN.{length};
 ghost use lib.Seq.{sets};
 ghost use Rattle.laws.specs.Lists.{if_then_else_};
 ghost use Rattle.database.specs.Refusals.{number, placeOf};
+ghost use Rattle.database.specs.Stored.{tableLimit};
 ghost use Rattle.query.specs.Lines.{nodeLimit};
-ghost use Rattle.capi.specs.Flat.{entry, status, statusBase, pairLine, filterLine, flatLine, queryRoom, flatQuery, over, bitsOf, outcomeStatus, runRoom};
+ghost use Rattle.capi.specs.Flat.{entry, status, statusBase, pairLine, filterLine, flatLine, queryRoom, flatQuery, over, bitsOf, outcomeStatus, runRoom, databaseRoom, flatDatabase};
 
 // What an entry holds of a number.
 pub fn entry(n: usize) -> u32
@@ -172,4 +178,35 @@ pub fn encode_run(columns: Columns, rows: usize, ran: u32, out: &mut [u32])
         b: ran,
     };
     put_line(told, out, 0);
+}
+
+// How many tables a database has entries for.
+fn table_count(database: Database) -> usize
+    ensures { λ r. ⌜ r ≡ min (database .tables) tableLimit ⌝ }
+{
+    let tables = database.tables;
+    if tables <= TABLES { tables } else { TABLES }
+}
+
+// Writes a table's entries.
+fn put_table(bits: u32, rows: u32, out: &mut [u32], at: usize)
+    requires { ⌜ at + 1 < length (now out) ⌝ }
+    ensures { λ _. ⌜ now (out .exit) ≡ sets (now (out .entry)) at (bits ∷ (rows ∷ [])) ⌝ }
+{
+    out[at] = bits;
+    out[at + 1] = rows;
+}
+
+// Writes a database's table count and tables; the entries behind them stay.
+pub fn encode_database(database: Database, out: &mut [u32])
+    requires { ⌜ databaseRoom ≤ length (now out) ⌝ }
+    ensures { λ _. ⌜ now (out .exit) ≡ over (flatDatabase database) (now (out .entry)) ⌝ }
+{
+    let count = table_count(database);
+    for t in 0..count {
+        let bits = bits_of(table_columns(database, t));
+        let rows = entry(row_count(database, t));
+        put_table(bits, rows, out, 1 + TABLE_ENTRIES * t);
+    }
+    out[0] = entry(count);
 }

@@ -16,6 +16,7 @@ mod decode;
 mod encode;
 
 pub use calls::capeshard_check;
+pub use calls::capeshard_read_database;
 pub use calls::capeshard_read_query;
 pub use calls::capeshard_rewrite;
 pub use calls::capeshard_run;
