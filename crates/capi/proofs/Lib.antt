@@ -1,0 +1,6 @@
+pub mod Blocks
+pub mod FlatQueries
+pub mod Rooms
+pub mod Replies
+pub mod BitSets
+pub mod RunReplies

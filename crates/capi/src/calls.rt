@@ -1,0 +1,171 @@
+// The calls: each decodes its flat slices, calls the engine once, and encodes what that replies.
+use super::DATABASE_ROOM;
+use super::QUERY_ROOM;
+use super::RUN_ROOM;
+use super::decode::decode_database;
+use super::decode::decode_query;
+use super::encode::encode_database;
+use super::encode::encode_query;
+use super::encode::encode_run;
+use super::encode::outcome_status;
+use super::encode::status;
+use database::Refusal;
+use database::Verdict;
+use machine::Outcome;
+ghost use mathlib.Core.Path.{_≡_};
+ghost use Prim.Native.Nat.{min};
+ghost use Rattle.database.specs.Refusals.{verdict};
+ghost use Rattle.query.specs.Lines.{nodeLimit};
+ghost use Rattle.text.specs.Replies.{storeAfter};
+ghost use Rattle.machine.specs.Run.{workspaceAfter, answerAfter};
+ghost use Rattle.capi.specs.Flat.{status, flatNodes, flatQuery, flatRun};
+ghost use Rattle.capi.specs.Calls.{after, readFlat, loadFlat, flatTables, checkFlat, rewriteFlat, beginFlat, runFlat};
+
+// Reads a sheet's text into a flat query.
+#[no_mangle]
+pub extern "C" fn capeshard_read_query(text: &[u8], limit: usize, query: &mut [u32]) -> u64
+    ensures { λ r. ⌜
+        (r ≡ status (verdict (readFlat (min limit nodeLimit) (now (text .entry)) (now (query .entry)))))
+        × (now (query .exit) ≡ after flatNodes (readFlat (min limit nodeLimit) (now (text .entry)) (now (query .entry))) (now (query .entry)))
+        ⌝ }
+{
+    if query.len() < QUERY_ROOM {
+        return status(Verdict::Refused(Refusal::ShortSlice));
+    }
+    let read = text::read_query(text, limit);
+    let verdict = read.verdict;
+    let Verdict::Accepted = verdict else {
+        return status(verdict);
+    };
+    encode_query(read.query, query);
+    0
+}
+
+// Reads a book's text into a flat database, its rows into a store.
+#[no_mangle]
+pub extern "C" fn capeshard_read_database(
+    text: &[u8],
+    database: &mut [u32],
+    store: &mut [u32],
+) -> u64
+    ensures { λ r. ⌜
+        (r ≡ status (verdict (loadFlat (now (text .entry)) (now (database .entry)) (now (store .entry)))))
+        × (now (database .exit) ≡ after flatTables (loadFlat (now (text .entry)) (now (database .entry)) (now (store .entry))) (now (database .entry)))
+        × (now (store .exit) ≡ storeAfter (loadFlat (now (text .entry)) (now (database .entry)) (now (store .entry))) (now (store .entry)))
+        ⌝ }
+{
+    if database.len() < DATABASE_ROOM {
+        return status(Verdict::Refused(Refusal::ShortSlice));
+    }
+    let read = loading::read_database(text, store);
+    let verdict = read.verdict;
+    let Verdict::Accepted = verdict else {
+        return status(verdict);
+    };
+    encode_database(read.database, database);
+    0
+}
+
+// Checks a flat query over a flat database and its store.
+#[no_mangle]
+pub extern "C" fn capeshard_check(
+    query: &[u32],
+    database: &[u32],
+    store: &[u32],
+    limit: usize,
+) -> u64
+    ensures { λ r. ⌜ r ≡ status (verdict (checkFlat (min limit nodeLimit) (now (query .entry)) (now (database .entry)) (now (store .entry)))) ⌝ }
+{
+    if query.len() < QUERY_ROOM {
+        return status(Verdict::Refused(Refusal::ShortSlice));
+    }
+    if database.len() < DATABASE_ROOM {
+        return status(Verdict::Refused(Refusal::ShortSlice));
+    }
+    let checked = checking::check(decode_query(query), decode_database(database), store, limit);
+    let verdict = checked.verdict;
+    status(verdict)
+}
+
+// Rewrites a flat query by a kind at a node; a refusal leaves it as it was.
+#[no_mangle]
+pub extern "C" fn capeshard_rewrite(
+    query: &mut [u32],
+    database: &[u32],
+    store: &[u32],
+    limit: usize,
+    kind: u32,
+    node: u32,
+) -> u64
+    ensures { λ r. ⌜
+        (r ≡ status (verdict (rewriteFlat (min limit nodeLimit) (now (query .entry)) (now (database .entry)) (now (store .entry)) kind node)))
+        × (now (query .exit) ≡ after flatQuery (rewriteFlat (min limit nodeLimit) (now (query .entry)) (now (database .entry)) (now (store .entry)) kind node) (now (query .entry)))
+        ⌝ }
+{
+    if query.len() < QUERY_ROOM {
+        return status(Verdict::Refused(Refusal::ShortSlice));
+    }
+    if database.len() < DATABASE_ROOM {
+        return status(Verdict::Refused(Refusal::ShortSlice));
+    }
+    let given = decode_query(query);
+    let next = rewriting::rewrite(given, decode_database(database), store, limit, kind, node);
+    let verdict = next.verdict;
+    let Verdict::Accepted = verdict else {
+        return status(verdict);
+    };
+    encode_query(next.query, query);
+    0
+}
+
+// Runs a flat query: the rows of its answer in `answer`, and in `out` the answer's columns, its row count and the lines run.
+#[no_mangle]
+pub extern "C" fn capeshard_run(
+    query: &[u32],
+    database: &[u32],
+    store: &[u32],
+    limit: usize,
+    rows: usize,
+    budget: u32,
+    workspace: &mut [u32],
+    answer: &mut [u32],
+    out: &mut [u32],
+) -> u64
+    ensures { λ r. ⌜
+        (r ≡ status (verdict (runFlat (min limit nodeLimit) (now (query .entry)) (now (database .entry)) (now (store .entry)) rows budget (now (workspace .entry)) (now (out .entry)) (now (answer .entry)))))
+        × (now (workspace .exit) ≡ workspaceAfter (beginFlat (min limit nodeLimit) (now (query .entry)) (now (database .entry)) (now (store .entry)) rows budget (now (workspace .entry)) (now (out .entry))) (now (workspace .entry)))
+        × (now (answer .exit) ≡ answerAfter (runFlat (min limit nodeLimit) (now (query .entry)) (now (database .entry)) (now (store .entry)) rows budget (now (workspace .entry)) (now (out .entry)) (now (answer .entry))) (now (answer .entry)))
+        × (now (out .exit) ≡ after flatRun (runFlat (min limit nodeLimit) (now (query .entry)) (now (database .entry)) (now (store .entry)) rows budget (now (workspace .entry)) (now (out .entry)) (now (answer .entry))) (now (out .entry)))
+        ⌝ }
+{
+    if query.len() < QUERY_ROOM {
+        return status(Verdict::Refused(Refusal::ShortSlice));
+    }
+    if database.len() < DATABASE_ROOM {
+        return status(Verdict::Refused(Refusal::ShortSlice));
+    }
+    if out.len() < RUN_ROOM {
+        return status(Verdict::Refused(Refusal::ShortSlice));
+    }
+    let ran = run::run(
+        decode_query(query),
+        decode_database(database),
+        store,
+        limit,
+        rows,
+        budget,
+        workspace,
+        answer,
+    );
+    let columns = ran.columns;
+    let outcome = ran.outcome;
+    let Outcome::Finished {
+        rows: found,
+        ran: lines,
+    } = outcome
+    else {
+        return outcome_status(outcome);
+    };
+    encode_run(columns, found, lines, out);
+    0
+}

@@ -1,0 +1,86 @@
+/* Capeshard for C: reading, checking, rewriting and running queries over flat slices.
+ *
+ * Link with target/staticlib/libcapi.a, which `rt staticlib capi` writes. A slice is a pointer and a count of entries, also where it is empty
+ * (the pointer is never null). What a call may write must be lent to nobody else while it runs. Nothing else is asked: whatever stands in the
+ * slices, each call returns what the definitions of crates/capi/specs say.
+ *
+ * A query takes CAPESHARD_QUERY_ROOM entries: its node count, then CAPESHARD_LINE_ENTRIES entries a line, a code and two numbers, 0 where the line
+ * has none. A line with another code is off the form (1 with its node). Lines past the count mean nothing.
+ *
+ * A database takes CAPESHARD_DATABASE_ROOM entries: its table count, then CAPESHARD_TABLE_ENTRIES entries a table, its columns, column c being worth
+ * 1 << c, and its row count. A higher bit makes the table off the form (11 with its number). Its rows stand in a store, table after table,
+ * CAPESHARD_COLUMNS entries a row, 0 where the table lacks the column.
+ *
+ * A call returns 0 if it accepts, else a refusal's number and place (below). A flat slice below its room gives 17 before any other test. A refusal
+ * changes no slice but the workspace of a run that began, which is all zeros after it.
+ */
+#ifndef CAPESHARD_H
+#define CAPESHARD_H
+
+#include <stddef.h>
+#include <stdint.h>
+
+#ifdef __cplusplus
+extern "C" {
+#endif
+
+enum {
+    CAPESHARD_COLUMNS = 8,
+    CAPESHARD_NODES = 128,
+    CAPESHARD_TABLES = 16,
+    CAPESHARD_LINE_ENTRIES = 3,
+    CAPESHARD_QUERY_ROOM = 1 + CAPESHARD_LINE_ENTRIES * CAPESHARD_NODES,
+    CAPESHARD_TABLE_ENTRIES = 2,
+    CAPESHARD_DATABASE_ROOM = 1 + CAPESHARD_TABLE_ENTRIES * CAPESHARD_TABLES,
+    CAPESHARD_RUN_ROOM = 3
+};
+
+/* The codes of lines, in the order of document 01's table. */
+enum {
+    CAPESHARD_TABLE = 1, /* table=a */
+    CAPESHARD_VAR = 2, /* var=a */
+    CAPESHARD_FACT = 3, /* fact=a,b */
+    CAPESHARD_UNION = 4, /* pair=union */
+    CAPESHARD_JOIN = 5, /* pair=join */
+    CAPESHARD_EXCEPT = 6, /* pair=except */
+    CAPESHARD_EQ = 7, /* eq=a,b */
+    CAPESHARD_NE = 8, /* ne=a,b */
+    CAPESHARD_MAX = 9, /* max=a,b */
+    CAPESHARD_SAME = 10, /* same=a,b */
+    CAPESHARD_COPY = 11, /* copy=a,b */
+    CAPESHARD_DROP = 12, /* drop=a */
+    CAPESHARD_FIX = 13 /* fix=a */
+};
+
+/* The number of a refusal (0 of an accepted call) and its place, a line, a node or a table; a place over 4,294,967,295 is given as that. */
+#define CAPESHARD_NUMBER(status) ((uint32_t)((status) >> 32))
+#define CAPESHARD_PLACE(status) ((uint32_t)((status) & UINT32_C(4294967295)))
+
+/* Entries of workspace that a run of so many nodes and fixes with a row limit needs. */
+#define CAPESHARD_WORKSPACE(nodes, fixes, rows) (((size_t)(nodes) + (size_t)(fixes)) * (1 + (size_t)CAPESHARD_COLUMNS * (size_t)(rows)))
+
+/* Reads a sheet's text (1, 2, 17). limit: the highest node count taken, at most CAPESHARD_NODES. */
+uint64_t capeshard_read_query(const uint8_t *text, size_t text_len, size_t limit, uint32_t *query, size_t query_len);
+
+/* Reads a book's text (11, 17); its rows go into the store from its start on. */
+uint64_t capeshard_read_database(const uint8_t *text, size_t text_len, uint32_t *database, size_t database_len, uint32_t *store, size_t store_len);
+
+/* Checks a query over a database (11, then 2, 1, 3 to 10). */
+uint64_t capeshard_check(const uint32_t *query, size_t query_len, const uint32_t *database, size_t database_len, const uint32_t *store,
+                         size_t store_len, size_t limit);
+
+/* Rewrites a query by a kind at a node (as the check, then 12 to 15); accepted, the query is the rule's. */
+uint64_t capeshard_rewrite(uint32_t *query, size_t query_len, const uint32_t *database, size_t database_len, const uint32_t *store, size_t store_len,
+                           size_t limit, uint32_t kind, uint32_t node);
+
+/* Runs a query (as the check, then 16 to 19). rows: the row limit; budget: the most plan lines that are run. Accepted, the answer's rows ascend
+ * from the start of answer, CAPESHARD_COLUMNS entries a row, and told holds the answer's columns as bits, its row count, and the lines run. */
+uint64_t capeshard_run(const uint32_t *query, size_t query_len, const uint32_t *database, size_t database_len, const uint32_t *store, size_t store_len,
+                       size_t limit, size_t rows, uint32_t budget, uint32_t *workspace, size_t workspace_len, uint32_t *answer, size_t answer_len,
+                       uint32_t *told, size_t told_len);
+
+#ifdef __cplusplus
+}
+#endif
+
+#endif
