@@ -1,11 +1,11 @@
 -- Blocks of entries written one behind the other into a lent slice, behind one entry of their count. Over any element and any block size.
 use mathlib.Core.Path.{_≡_, refl, ap, sym, _∙_}
 use mathlib.Core.List.{List, [], _∷_, _++_, flatMap, append-assoc}
-use Prim.Native.Nat.{ℕ, suc, _+_, _*_, _≤_, _<_}
+use Prim.Native.Nat.{ℕ, zero, suc, _+_, _*_, _≤_, _<_}
 use native.Mathlib.Omega.{arith}
 use native.Mathlib.Nat.{mul-suc, mul-zero, mul-le-mul-left}
-use lib.ListN.{length, take, drop, getD, set, length-append, length-drop, length-take}
-use lib.Seq.{sets, sets-eq, take-append-seam, drop-append-add, drop-drop, drop-cons, take-all, length-take-le}
+use lib.ListN.{length, take, drop, getD, set, length-append, length-drop, length-take, List·getD-append}
+use lib.Seq.{sets, sets-eq, take-append-seam, drop-append-add, getD-append-add, drop-drop, drop-cons, take-all, length-take-le}
 use Rattle.laws.proofs.Writers.{flatMap-none, flatMap-more}
 use Rattle.capi.specs.Flat.{over}
 
@@ -38,6 +38,19 @@ module _ {A : Type 0} (f : A → List ℕ) (k : ℕ) (size : (a : A) → length 
   blocks-length (a ∷ l) =
       length-append (f a) (flatMap f l)
       ∙ (let e = size a in let g = blocks-length l in let m = mul-suc k (length l) in omega arith)
+
+  -- entry j of block i
+  pub blocks-at : (l : List A) (r : List ℕ) (i j : ℕ) (d : A) → i < length l → j < k → getD (flatMap f l ++ r) (k * i + j) 0 ≡ getD (f (getD l i d)) j 0
+  unfolding flatMap
+  blocks-at [] r i j d h g = let z : _≡_ {A = ℕ} 0 1 = omega arith in (cc)
+  blocks-at (a ∷ l) r zero j d h g =
+      ap (λ n. getD ((f a ++ flatMap f l) ++ r) n 0) {x = k * 0 + j} {y = j} (let m = mul-zero k in omega arith)
+      ∙ ap (λ (x : List ℕ). getD x j 0) (append-assoc (f a) (flatMap f l) r) ∙ List·getD-append (f a) (flatMap f l ++ r) 0 j (let z = size a in omega arith)
+  blocks-at (a ∷ l) r (suc i) j d h g =
+      ap (λ n. getD ((f a ++ flatMap f l) ++ r) n 0) {x = k * suc i + j} {y = length (f a) + (k * i + j)}
+      (let m = mul-suc k i in let z = size a in omega arith)
+      ∙ ap (λ (x : List ℕ). getD x (length (f a) + (k * i + j)) 0) (append-assoc (f a) (flatMap f l) r)
+      ∙ getD-append-add (f a) (flatMap f l ++ r) (k * i + j) 0 ∙ blocks-at l r i j d (omega arith) g
 
   module _ (l : List A) (s : List ℕ) where
     -- the blocks of the first i members are written

@@ -4,3 +4,4 @@ pub mod Rooms
 pub mod Replies
 pub mod BitSets
 pub mod RunReplies
+pub mod RoundTrip
