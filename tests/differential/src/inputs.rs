@@ -7,15 +7,23 @@ use reference::check::check;
 use reference::damage;
 use reference::plan::{execute, plan};
 use reference::random::{self, Random};
-use reference::rewrite::rewrite;
+use reference::rewrite::{apply, rewrite};
 use reference::run::workspace_entries;
 use reference::text::{print_database, print_query};
-use reference::value::{Database, Node, Query, COLUMNS, NODES, TABLES, TABLE_ROWS, VARIABLES};
+use reference::value::{refuse, Database, Node, Query, COLUMNS, NODES, TABLES, TABLE_ROWS, VARIABLES};
 
 pub type Input = (Call, Slices);
 
+/// Steps a query that are taken of those that fit.
+const FITTING: usize = 6;
+/// Row limit and budget of the run that tells what others need.
+const FREE: (usize, u32) = (400, 4000);
+
 pub fn inputs(random: &mut Random) -> Vec<Input> {
-    let database = random::database(random);
+    let mut database = random::database(random);
+    if random.once_in(8) {
+        database = denser(random, &database);
+    }
     let query =
         if random.once_in(6) { joined(random, &database) } else { random::query(random, database.schema(), NODES) };
     let mut found = query_texts(random, &query);
@@ -59,6 +67,19 @@ fn joined(random: &mut Random, database: &Database) -> Query {
         lines.push(random::node(random));
     }
     Query::new(&lines, NODES)
+}
+
+/// A database with the same columns and more rows, few of whose values differ: fixes take more rounds.
+fn denser(random: &mut Random, database: &Database) -> Database {
+    let values = 3 + random.below(20);
+    let row =
+        |random: &mut Random, columns: &Columns| columns.iter().map(|c| (*c, random.below(values) as u32)).collect();
+    let tables: Vec<(Columns, Relation)> = database
+        .schema()
+        .iter()
+        .map(|columns| (columns.clone(), (0..random.below(40)).map(|_| row(random, columns)).collect()))
+        .collect();
+    Database::stored(&tables, 0)
 }
 
 /// A database with many tables and columns, now and then more than there can be.
@@ -215,10 +236,27 @@ fn rewrites(random: &mut Random, query: &Query, database: &Database) -> Vec<Inpu
             }
         }
     }
+    for (kind, node) in fitting(random, query, database) {
+        found.push((Call::Rewrite { limit: NODES, kind, node }, over(random, query, database)));
+    }
     for (kind, node) in random::steps(random, &held) {
         found.push((Call::Rewrite { limit: NODES, kind, node }, damaged(random, &held, database)));
     }
     found
+}
+
+/// Some of the kinds and nodes that fit, so that 13 to 15 or acceptance follow.
+fn fitting(random: &mut Random, query: &Query, database: &Database) -> Vec<(u32, u32)> {
+    let Ok(checked) = check(query, database.schema()) else {
+        return Vec::new();
+    };
+    let every = (1..=query.count).flat_map(|node| (1..=6).map(move |kind| (kind, node)));
+    let fits = |&(kind, node): &(u32, u32)| apply(&checked, query, kind, node) != refuse(12, 0);
+    let mut fitting: Vec<(u32, u32)> = every.filter(fits).collect();
+    while fitting.len() > FITTING {
+        fitting.swap_remove(random.below(fitting.len()));
+    }
+    fitting
 }
 
 fn runs(random: &mut Random, query: &Query, database: &Database) -> Vec<Input> {
@@ -243,7 +281,7 @@ fn again(random: &mut Random, query: &Query, database: &Database) -> Query {
 /// Row limit, budget and slices at, below and above what the run needs.
 fn run(random: &mut Random, query: &Query, database: &Database, slices: Slices) -> Input {
     let plan = check(query, database.schema()).ok().map(|checked| plan(&checked.root));
-    let free = plan.as_ref().and_then(|plan| execute(plan, &database.relations(), 60, 4000).ok());
+    let free = plan.as_ref().and_then(|plan| execute(plan, &database.relations(), FREE.0, FREE.1).ok());
     let (peak, ran) = free.as_ref().map_or((6, 20), |free| (free.peak, free.ran));
     let rows = match random.below(16) {
         0 => [0, TABLE_ROWS as usize + 1, u32::MAX as usize, usize::MAX, 1 << 61][random.below(5)],
