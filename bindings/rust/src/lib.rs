@@ -16,7 +16,8 @@ const TABLE_ENTRIES: usize = 2;
 const DATABASE_ROOM: usize = 1 + TABLE_ENTRIES * TABLES;
 const RUN_ROOM: usize = 3;
 
-mod calls {
+/// The calls themselves, over slices of any length and content. What each asks and does stands in `include/capeshard.h`.
+pub mod calls {
     extern "C" {
         pub fn capeshard_read_query(
             text: *const u8,

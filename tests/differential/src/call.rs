@@ -1,0 +1,137 @@
+//! A call of include/capeshard.h, made of the engine and worked out by the reference.
+
+use crate::slices::{
+    bits_of, database_of, flat_database, flat_query, over, query_of, Slices, DATABASE_ROOM, QUERY_ROOM, RUN_ROOM,
+};
+use capeshard::calls;
+use reference::check::check;
+use reference::rewrite::rewrite;
+use reference::run::run;
+use reference::text::{read_database, read_query};
+use reference::value::{refuse, Refusal, NODES};
+
+#[derive(Clone, Copy, Debug)]
+pub enum Call {
+    ReadQuery { limit: usize },
+    ReadDatabase,
+    Check { limit: usize },
+    Rewrite { limit: usize, kind: u32, node: u32 },
+    Run { limit: usize, rows: usize, budget: u32 },
+}
+
+/// Entries on both sides of each lent slice, which no call may touch.
+const GUARD: usize = 4;
+const MARK: u32 = 0xa5a5_5a5a;
+
+fn guarded(slice: &[u32]) -> Vec<u32> {
+    [&[MARK; GUARD], slice, &[MARK; GUARD]].concat()
+}
+
+impl Call {
+    /// What the engine replies; the slices hold what it left. A broken guard shows as a slice that has grown.
+    pub fn by_engine(self, lent: &mut Slices) -> Result<(), Refusal> {
+        let text = lent.text.clone();
+        let slices = [
+            &mut lent.query,
+            &mut lent.database,
+            &mut lent.store,
+            &mut lent.workspace,
+            &mut lent.answer,
+            &mut lent.told,
+        ];
+        let mut held = slices.each_ref().map(|slice| guarded(slice));
+        let [query, database, store, workspace, answer, told] = held.each_mut().map(|slice| {
+            let length = slice.len() - 2 * GUARD;
+            (slice[GUARD..].as_mut_ptr(), length)
+        });
+        // SAFETY: each pointer and length is that of one slice that nobody else has.
+        let status = unsafe {
+            match self {
+                Call::ReadQuery { limit } => {
+                    calls::capeshard_read_query(text.as_ptr(), text.len(), limit, query.0, query.1)
+                }
+                Call::ReadDatabase => {
+                    calls::capeshard_read_database(text.as_ptr(), text.len(), database.0, database.1, store.0, store.1)
+                }
+                Call::Check { limit } => {
+                    calls::capeshard_check(query.0, query.1, database.0, database.1, store.0, store.1, limit)
+                }
+                Call::Rewrite { limit, kind, node } => calls::capeshard_rewrite(
+                    query.0, query.1, database.0, database.1, store.0, store.1, limit, kind, node,
+                ),
+                Call::Run { limit, rows, budget } => calls::capeshard_run(
+                    query.0,
+                    query.1,
+                    database.0,
+                    database.1,
+                    store.0,
+                    store.1,
+                    limit,
+                    rows,
+                    budget,
+                    workspace.0,
+                    workspace.1,
+                    answer.0,
+                    answer.1,
+                    told.0,
+                    told.1,
+                ),
+            }
+        };
+        for (slice, held) in slices.into_iter().zip(held) {
+            let inner = held[GUARD..held.len() - GUARD].to_vec();
+            *slice = if guarded(&inner) == held { inner } else { held };
+        }
+        match status {
+            0 => Ok(()),
+            _ => refuse((status >> 32) as u32, status as u32),
+        }
+    }
+
+    /// What the reference replies, and what the slices are to hold then.
+    pub fn by_reference(self, lent: &mut Slices) -> Result<(), Refusal> {
+        let short = match self {
+            Call::ReadQuery { .. } => lent.query.len() < QUERY_ROOM,
+            Call::ReadDatabase => lent.database.len() < DATABASE_ROOM,
+            Call::Check { .. } | Call::Rewrite { .. } => {
+                lent.query.len() < QUERY_ROOM || lent.database.len() < DATABASE_ROOM
+            }
+            Call::Run { .. } => {
+                lent.query.len() < QUERY_ROOM || lent.database.len() < DATABASE_ROOM || lent.told.len() < RUN_ROOM
+            }
+        };
+        if short {
+            return refuse(17, 0);
+        }
+        match self {
+            Call::ReadQuery { limit } => {
+                let query = read_query(&lent.text, limit.min(NODES))?;
+                over(&flat_query(query.lines()), &mut lent.query);
+            }
+            Call::ReadDatabase => {
+                let database = read_database(&lent.text, &lent.store)?;
+                over(&flat_database(&database), &mut lent.database);
+                lent.store = database.store;
+            }
+            Call::Check { limit } => {
+                let database = database_of(&lent.database, &lent.store);
+                database.form()?;
+                check(&query_of(&lent.query, limit), database.schema())?;
+            }
+            Call::Rewrite { limit, kind, node } => {
+                let database = database_of(&lent.database, &lent.store);
+                let rewritten = rewrite(&database, &query_of(&lent.query, limit), kind, node)?;
+                over(&flat_query(rewritten.lines()), &mut lent.query);
+            }
+            Call::Run { limit, rows, budget } => {
+                let database = database_of(&lent.database, &lent.store);
+                let query = query_of(&lent.query, limit);
+                // A limit that the reference's number cannot hold is as much too high as its highest.
+                let rows = u32::try_from(rows).unwrap_or(u32::MAX);
+                let told = run(&database, &query, rows, budget, &mut lent.workspace, &mut lent.answer)?;
+                over(&[bits_of(&told.columns), told.rows, told.ran], &mut lent.told);
+            }
+        }
+        Ok(())
+    }
+}

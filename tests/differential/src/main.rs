@@ -1,0 +1,48 @@
+//! Compares the engine with the reference, call by call: `differential SEED COUNT` on the inputs of COUNT seeds from SEED
+//! on. A case is one call: the reply and all lent slices afterwards. A difference prints its seed and both sides; the last
+//! line is 'N passed, M failed'.
+
+mod call;
+mod inputs;
+mod slices;
+mod tally;
+mod wrapper;
+
+use reference::random::Random;
+use std::process::ExitCode;
+use tally::Tally;
+
+const SEED: u64 = 1;
+const COUNT: u64 = 1500;
+
+fn main() -> ExitCode {
+    let arguments: Vec<String> = std::env::args().skip(1).collect();
+    let chosen: Vec<u64> = arguments.iter().flat_map(|argument| argument.parse()).collect();
+    let (seed, count) = match (arguments.len(), &chosen[..]) {
+        (0, _) => (SEED, COUNT),
+        (2, [seed, count]) => (*seed, *count),
+        _ => {
+            eprintln!("usage: differential [SEED COUNT]");
+            return ExitCode::from(2);
+        }
+    };
+    let mut tally = Tally::default();
+    for seed in seed..seed.saturating_add(count) {
+        tally.seed = seed;
+        for (call, before) in inputs::inputs(&mut Random::new(seed)) {
+            let (mut due, mut left) = (before.clone(), before.clone());
+            let expected = call.by_reference(&mut due);
+            let replied = call.by_engine(&mut left);
+            tally.meet(call, expected, &due);
+            tally.case(|| format!("{call:?} of {before:?}"), &(expected, due), &(replied, left));
+        }
+        wrapper::cases(&mut Random::new(seed), &mut tally);
+    }
+    tally.print_met();
+    // Fewer inputs may miss a kind or a number.
+    if count >= COUNT {
+        tally.all_met();
+    }
+    println!("{} passed, {} failed", tally.passed, tally.failed);
+    ExitCode::from(u8::from(tally.failed > 0))
+}

@@ -1,0 +1,107 @@
+//! The slices that a call is lent, and the values that stand in them by the layout of include/capeshard.h.
+
+use reference::algebra::{Columns, Condition, Pairing};
+use reference::value::{Database, Node, Query, NODES, TABLES};
+
+pub const LINE: usize = 3;
+pub const QUERY_ROOM: usize = 1 + LINE * NODES;
+pub const TABLE: usize = 2;
+pub const DATABASE_ROOM: usize = 1 + TABLE * TABLES as usize;
+pub const RUN_ROOM: usize = 3;
+
+/// Whatever a call takes; what it does not take stays empty.
+#[derive(Clone, Debug, Default, PartialEq, Eq)]
+pub struct Slices {
+    pub text: Vec<u8>,
+    pub query: Vec<u32>,
+    pub database: Vec<u32>,
+    pub store: Vec<u32>,
+    pub workspace: Vec<u32>,
+    pub answer: Vec<u32>,
+    pub told: Vec<u32>,
+}
+
+fn line_of(node: &Node) -> [u32; LINE] {
+    let two = |code, a: u8, b: u32| [code, u32::from(a), b];
+    match *node {
+        Node::Table(t) => two(1, t, 0),
+        Node::Var(v) => two(2, v, 0),
+        Node::Fact(c, w) => two(3, c, w),
+        Node::Pair(Pairing::Union) => [4, 0, 0],
+        Node::Pair(Pairing::Join) => [5, 0, 0],
+        Node::Pair(Pairing::Except) => [6, 0, 0],
+        Node::Filter(Condition::Eq(c, w)) => two(7, c, w),
+        Node::Filter(Condition::Ne(c, w)) => two(8, c, w),
+        Node::Filter(Condition::Max(c, w)) => two(9, c, w),
+        Node::Filter(Condition::Same(c, d)) => two(10, c, u32::from(d)),
+        Node::Copy(a, b) => two(11, a, u32::from(b)),
+        Node::Drop(a) => two(12, a, 0),
+        Node::Fix(v) => two(13, v, 0),
+    }
+}
+
+/// The reference keeps these numbers in a byte: any higher one is as far off the form as the highest byte.
+fn byte(number: u32) -> u8 {
+    number.min(u32::from(u8::MAX)) as u8
+}
+
+fn node_of(line: &[u32]) -> Node {
+    let (a, b) = (byte(line[1]), line[2]);
+    match line[0] {
+        1 => Node::Table(a),
+        2 => Node::Var(a),
+        3 => Node::Fact(a, b),
+        4 => Node::Pair(Pairing::Union),
+        5 => Node::Pair(Pairing::Join),
+        6 => Node::Pair(Pairing::Except),
+        7 => Node::Filter(Condition::Eq(a, b)),
+        8 => Node::Filter(Condition::Ne(a, b)),
+        9 => Node::Filter(Condition::Max(a, b)),
+        10 => Node::Filter(Condition::Same(a, byte(b))),
+        11 => Node::Copy(a, byte(b)),
+        12 => Node::Drop(a),
+        13 => Node::Fix(a),
+        // Another code is a line off the form.
+        _ => Node::Table(u8::MAX),
+    }
+}
+
+pub fn flat_query(lines: &[Node]) -> Vec<u32> {
+    let mut flat = vec![lines.len() as u32];
+    flat.extend(lines.iter().flat_map(line_of));
+    flat
+}
+
+/// The query in a slice with room for it; `limit` is the highest node count taken.
+pub fn query_of(flat: &[u32], limit: usize) -> Query {
+    Query { nodes: flat[1..QUERY_ROOM].chunks(LINE).take(limit).map(node_of).collect(), count: flat[0] }
+}
+
+pub fn bits_of(columns: &Columns) -> u32 {
+    columns.iter().map(|column| 1 << column).sum()
+}
+
+pub fn flat_database(database: &Database) -> Vec<u32> {
+    let mut flat = vec![database.tables];
+    for (columns, rows) in database.columns.iter().zip(&database.rows) {
+        flat.extend([bits_of(columns), *rows]);
+    }
+    flat
+}
+
+/// The database in a slice with room for it.
+pub fn database_of(flat: &[u32], store: &[u32]) -> Database {
+    let columns = |bits: u32| (0..u32::BITS as u8).filter(|column| bits >> column & 1 == 1).collect();
+    let tables = || flat[1..DATABASE_ROOM].chunks(TABLE);
+    Database {
+        tables: flat[0],
+        columns: tables().map(|table| columns(table[0])).collect(),
+        rows: tables().map(|table| table[1]).collect(),
+        store: store.to_vec(),
+    }
+}
+
+/// Entries written from a slice's start on.
+pub fn over(entries: &[u32], slice: &mut [u32]) {
+    slice[..entries.len()].copy_from_slice(entries);
+}
