@@ -1,4 +1,4 @@
-/* Capeshard for C: reading, checking, rewriting and running queries over flat slices.
+/* Capeshard for C: reading, checking, rewriting, compiling and running queries over flat slices.
  *
  * Link with target/staticlib/libcapi.a, which `rt staticlib capi` writes. A slice is a pointer and a count of entries, also where it is empty
  * (the pointer is never null). What a call may write must be lent to nobody else while it runs. Nothing else is asked: whatever stands in the
@@ -32,7 +32,9 @@ enum {
     CAPESHARD_QUERY_ROOM = 1 + CAPESHARD_LINE_ENTRIES * CAPESHARD_NODES,
     CAPESHARD_TABLE_ENTRIES = 2,
     CAPESHARD_DATABASE_ROOM = 1 + CAPESHARD_TABLE_ENTRIES * CAPESHARD_TABLES,
-    CAPESHARD_RUN_ROOM = 3
+    CAPESHARD_RUN_ROOM = 3,
+    CAPESHARD_SLOT_ENTRIES = 7,
+    CAPESHARD_PLAN_ROOM = 1 + CAPESHARD_SLOT_ENTRIES * CAPESHARD_NODES
 };
 
 /* The codes of lines, in the order of document 01's table. */
@@ -72,6 +74,12 @@ uint64_t capeshard_check(const uint32_t *query, size_t query_len, const uint32_t
 /* Rewrites a query by a kind at a node (as the check, then 12 to 15); accepted, the query is the rule's. */
 uint64_t capeshard_rewrite(uint32_t *query, size_t query_len, const uint32_t *database, size_t database_len, const uint32_t *store, size_t store_len,
                            size_t limit, uint32_t kind, uint32_t node);
+
+/* Compiles a query (as the check). Accepted, plan holds the line count, then CAPESHARD_SLOT_ENTRIES entries a line: a code, the register that the
+ * line writes, three numbers in the order of the fields of plan::Op, and the columns of a pair's operands as bits. The codes are those of the node
+ * lines; 13 is a fix's own line (again), 14 its start. */
+uint64_t capeshard_compile(const uint32_t *query, size_t query_len, const uint32_t *database, size_t database_len, const uint32_t *store,
+                           size_t store_len, size_t limit, uint32_t *plan, size_t plan_len);
 
 /* Runs a query (as the check, then 16 to 19). rows: the row limit; budget: the most plan lines that are run. Accepted, the answer's rows ascend
  * from the start of answer, CAPESHARD_COLUMNS entries a row, and told holds the answer's columns as bits, its row count, and the lines run. */

@@ -21,6 +21,14 @@ module _ (xs s : List ℕ) where
       ∙ ap (λ (r : List ℕ). xs ++ vs ++ r)
       (drop-append-add xs (drop (length xs) s) (length vs) ∙ drop-drop (length vs) (length xs) s ∙ ap (λ n. drop n s) (sym (length-append xs vs)))
 
+-- seven stores in a row
+pub seven : (l : List ℕ) (at a b c d e f g : ℕ)
+    → set (sets (sets l at (a ∷ (b ∷ (c ∷ [])))) (at + 3) (d ∷ (e ∷ (f ∷ [])))) (at + 6) g ≡ sets l at (a ∷ (b ∷ (c ∷ (d ∷ (e ∷ (f ∷ (g ∷ [])))))))
+seven l at a b c d e f g =
+    ap (λ n. set (sets (sets l at (a ∷ (b ∷ (c ∷ [])))) n (d ∷ (e ∷ (f ∷ [])))) (at + 6) g) {x = at + 3} {y = suc (suc (suc at))} (omega arith)
+    ∙ ap (λ n. set (sets (sets l at (a ∷ (b ∷ (c ∷ [])))) (suc (suc (suc at))) (d ∷ (e ∷ (f ∷ [])))) n g) {x = at + 6}
+    {y = suc (suc (suc (suc (suc (suc at)))))} (omega arith)
+
 -- two stores in a row
 pub two : (l : List ℕ) (at a b : ℕ) → set (set l at a) (at + 1) b ≡ sets l at (a ∷ (b ∷ []))
 two l at a b = ap (λ n. set (set l at a) n b) {x = at + 1} {y = suc at} (omega arith)

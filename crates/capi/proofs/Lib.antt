@@ -5,3 +5,4 @@ pub mod Replies
 pub mod BitSets
 pub mod RunReplies
 pub mod RoundTrip
+pub mod FlatPlans

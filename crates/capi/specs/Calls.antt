@@ -11,11 +11,13 @@ use Rattle.database.specs.Refusals.{Reply, refused, accepted, require, _>>=_}
 use Rattle.query.specs.declared.Node.{Node}
 use Rattle.query.specs.declared.Query.{Query}
 use Rattle.query.specs.Check.{checkOver}
+use Rattle.plan.specs.declared.Slot.{Slot}
+use Rattle.plan.specs.Plan.{compile}
 use Rattle.rewrite.specs.Rewrite.{rewrite}
 use Rattle.machine.specs.Run.{Answer, begin, runQuery}
 use Rattle.text.specs.Texts.{Table, readNodes, databaseValue}
 use Rattle.text.specs.Replies.{loadTables}
-use Rattle.capi.specs.Flat.{queryRoom, queryOf, flatNodes, over, databaseRoom, databaseOf, flatDatabase, runRoom}
+use Rattle.capi.specs.Flat.{queryRoom, queryOf, flatNodes, over, databaseRoom, databaseOf, flatDatabase, runRoom, planRoom}
 
 -- "lent slice short": a slice with less than the layout's room, before anything else is tested
 abbrev pub roomFor : ℕ → List ℕ → Reply (Unit {0})
@@ -64,3 +66,7 @@ module _ (limit : ℕ) (query database store : List ℕ) (rows budget : ℕ) (wo
 
   abbrev pub runFlat : List ℕ → Reply Answer
   runFlat answer = withFlat query database (λ q d. roomFor runRoom out >>= λ _. runQuery columns limit q d store rows budget workspace answer)
+
+-- the plan of a checked query
+abbrev pub compileFlat : ℕ → List ℕ → List ℕ → List ℕ → List ℕ → Reply (List Slot)
+compileFlat limit query database store plan = withFlat query database (λ q d. roomFor planRoom plan >>= λ _. compile columns limit q d store)

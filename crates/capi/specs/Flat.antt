@@ -3,7 +3,7 @@ use mathlib.Core.Bool.{Bool, true, false}
 use mathlib.Core.List.{List, [], _∷_, _++_, flatMap}
 use Prim.Native.Nat.{ℕ, zero, suc, _+_, _*_, _/_, _%_, _^_, min}
 use lib.Dec.{eqb}
-use lib.ListN.{getD, drop, length}
+use lib.ListN.{getD, take, drop, length}
 use Rattle.laws.specs.Lists.{if_then_else_, tabulate}
 use Rattle.algebra.specs.declared.Pairing.{Pairing}
 use Rattle.algebra.specs.declared.Pairing.the-variants.{Union, Join, Except}
@@ -25,7 +25,12 @@ use Rattle.machine.specs.declared.Outcome.{Outcome}
 use Rattle.machine.specs.declared.Outcome.the-variants.{Finished}
 use Rattle.machine.specs.declared.Outcome.the-variants as run
 use Rattle.machine.specs.Run.{Answer}
+use Rattle.plan.specs.declared.Op.{Op}
+use Rattle.plan.specs.declared.Op.the-variants as plan
+use Rattle.plan.specs.declared.Slot.{Slot}
+use Rattle.plan.specs.declared.Plan.{Plan}
 use Rattle.capi.specs.declared.FlatLine.{FlatLine}
+use Rattle.capi.specs.declared.FlatOp.{FlatOp}
 
 -- "values 0–4,294,967,295": the highest number that an entry holds; a higher one is written as this
 abbrev pub entryLimit : ℕ
@@ -153,3 +158,36 @@ flatRun a = bitsOf (a .columns) ∷ (entry (length (a .rows)) ∷ (a .ran ∷ []
 abbrev pub outcomeStatus : Outcome → ℕ
 outcomeStatus (Finished rows ran) = 0
 outcomeStatus (run.Refused r) = status (Refused r)
+
+-- a plan line's code and four numbers: what it writes, then what it reads, in the order of the line's fields, 0 where it has fewer. The codes are
+-- those of the node lines; document 01's again, a fix's own line, has the fix's code, and its start the one behind.
+abbrev pub opLine : ℕ → ℕ → ℕ → ℕ → ℕ → FlatOp
+opLine code to a b c = record { code = code; to = entry to; a = entry a; b = entry b; c = entry c }
+
+abbrev pub flatOp : Op → FlatOp
+flatOp (plan.Table to t) = opLine 1 to t 0 0
+flatOp (plan.Fact to c w) = opLine 3 to c w 0
+flatOp (plan.Pair to l r o) = opLine (pairLine o .code) to l r 0
+flatOp (plan.Filter to from f) = opLine (filterLine f .code) to from (filterLine f .a) (filterLine f .b)
+flatOp (plan.Copy to from a b) = opLine 11 to from a b
+flatOp (plan.Drop to from a) = opLine 12 to from a 0
+flatOp (plan.LoopStart total delta from path) = opLine 14 total delta from path
+flatOp (plan.LoopNext total delta from path) = opLine 13 total delta from path
+
+-- a plan: its line count, then seven entries a line, the last two the columns of a pair's operands
+abbrev pub slotEntries : ℕ
+slotEntries = 7
+
+abbrev pub planRoom : ℕ
+planRoom = 1 + slotEntries * nodeLimit
+
+abbrev pub slotOf : Slot → List ℕ
+slotOf s =
+    flatOp (s .op) .code
+    ∷ (flatOp (s .op) .to ∷ (flatOp (s .op) .a ∷ (flatOp (s .op) .b ∷ (flatOp (s .op) .c ∷ (bitsOf (s .left) ∷ (bitsOf (s .right) ∷ []))))))
+
+abbrev pub flatSlots : List Slot → List ℕ
+flatSlots slots = length slots ∷ flatMap slotOf slots
+
+abbrev pub planSlots : Plan → List Slot
+planSlots p = take (p .count) (p .ops)

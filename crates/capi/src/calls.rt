@@ -1,5 +1,6 @@
 // The calls: each decodes its flat slices, calls the engine once, and encodes what that replies.
 use super::DATABASE_ROOM;
+use super::PLAN_ROOM;
 use super::QUERY_ROOM;
 use super::RUN_ROOM;
 use super::decode::decode_database;
@@ -9,6 +10,7 @@ use super::encode::encode_query;
 use super::encode::encode_run;
 use super::encode::outcome_status;
 use super::encode::status;
+use super::plans::encode_plan;
 use database::Refusal;
 use database::Verdict;
 use machine::Outcome;
@@ -18,8 +20,8 @@ ghost use Rattle.database.specs.Refusals.{verdict};
 ghost use Rattle.query.specs.Lines.{nodeLimit};
 ghost use Rattle.text.specs.Replies.{storeAfter};
 ghost use Rattle.machine.specs.Run.{workspaceAfter, answerAfter};
-ghost use Rattle.capi.specs.Flat.{status, flatNodes, flatQuery, flatRun};
-ghost use Rattle.capi.specs.Calls.{after, readFlat, loadFlat, flatTables, checkFlat, rewriteFlat, beginFlat, runFlat};
+ghost use Rattle.capi.specs.Flat.{status, flatNodes, flatQuery, flatRun, flatSlots};
+ghost use Rattle.capi.specs.Calls.{after, readFlat, loadFlat, flatTables, checkFlat, rewriteFlat, beginFlat, runFlat, compileFlat};
 
 // Reads a sheet's text into a flat query.
 #[no_mangle]
@@ -167,5 +169,37 @@ pub extern "C" fn capeshard_run(
         return outcome_status(outcome);
     };
     encode_run(columns, found, lines, out);
+    0
+}
+
+// Compiles a flat query into a flat plan.
+#[no_mangle]
+pub extern "C" fn capeshard_compile(
+    query: &[u32],
+    database: &[u32],
+    store: &[u32],
+    limit: usize,
+    plan: &mut [u32],
+) -> u64
+    ensures { λ r. ⌜
+        (r ≡ status (verdict (compileFlat (min limit nodeLimit) (now (query .entry)) (now (database .entry)) (now (store .entry)) (now (plan .entry)))))
+        × (now (plan .exit) ≡ after flatSlots (compileFlat (min limit nodeLimit) (now (query .entry)) (now (database .entry)) (now (store .entry)) (now (plan .entry))) (now (plan .entry)))
+        ⌝ }
+{
+    if query.len() < QUERY_ROOM {
+        return status(Verdict::Refused(Refusal::ShortSlice));
+    }
+    if database.len() < DATABASE_ROOM {
+        return status(Verdict::Refused(Refusal::ShortSlice));
+    }
+    if plan.len() < PLAN_ROOM {
+        return status(Verdict::Refused(Refusal::ShortSlice));
+    }
+    let compiled = compiling::compile(decode_query(query), decode_database(database), store, limit);
+    let verdict = compiled.verdict;
+    let Verdict::Accepted = verdict else {
+        return status(verdict);
+    };
+    encode_plan(compiled.plan, plan);
     0
 }

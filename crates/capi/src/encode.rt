@@ -58,7 +58,7 @@ pub fn status(verdict: Verdict) -> u64
     }
 }
 
-fn pair_line(pairing: Pairing) -> FlatLine
+pub fn pair_line(pairing: Pairing) -> FlatLine
     ensures { λ r. ⌜ r ≡ pairLine pairing ⌝ }
 {
     match pairing {
@@ -80,7 +80,7 @@ fn pair_line(pairing: Pairing) -> FlatLine
     }
 }
 
-fn filter_line(condition: Condition) -> FlatLine
+pub fn filter_line(condition: Condition) -> FlatLine
     ensures { λ r. ⌜ r ≡ filterLine condition ⌝ }
 {
     match condition {
@@ -108,7 +108,7 @@ fn flat_line(node: Node) -> FlatLine
 }
 
 // Writes a line's entries.
-fn put_line(line: FlatLine, out: &mut [u32], at: usize)
+pub fn put_line(line: FlatLine, out: &mut [u32], at: usize)
     requires { ⌜ at + 2 < length (now out) ⌝ }
     ensures { λ _. ⌜ now (out .exit) ≡ sets (now (out .entry)) at (line .code ∷ (line .a ∷ (line .b ∷ []))) ⌝ }
 {

@@ -9,13 +9,18 @@
 //
 // A run tells three entries: the columns of its answer as above, its row count, and the lines run.
 //
+// A plan takes PLAN_ROOM entries: its line count, then seven a line, namely a code, the register that it writes, three numbers in the order of the
+// fields of plan::Op, and the columns of a pair's operands. The codes are those of the node lines; 13 is a fix's own line, 14 its start.
+//
 // A call returns 0 if it accepts, else the refusal's number times 2^32 and its place; a place over 4,294,967,295 is given as that. A flat slice
 // below its room gives 17 before any other test.
 mod calls;
 mod decode;
 mod encode;
+mod plans;
 
 pub use calls::capeshard_check;
+pub use calls::capeshard_compile;
 pub use calls::capeshard_read_database;
 pub use calls::capeshard_read_query;
 pub use calls::capeshard_rewrite;
@@ -32,6 +37,19 @@ pub const TABLE_ENTRIES: usize = 2;
 pub const DATABASE_ROOM: usize = 1 + TABLE_ENTRIES * TABLES;
 
 pub const RUN_ROOM: usize = 3;
+
+pub const SLOT_ENTRIES: usize = 7;
+
+pub const PLAN_ROOM: usize = 1 + SLOT_ENTRIES * NODES;
+
+// A plan line as a code and four numbers.
+pub struct FlatOp {
+    pub code: u32,
+    pub to: u32,
+    pub a: u32,
+    pub b: u32,
+    pub c: u32,
+}
 
 // A node line as a code and two numbers.
 pub struct FlatLine {
