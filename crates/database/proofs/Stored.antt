@@ -14,7 +14,7 @@ use Rattle.algebra.proofs.Domain.{TypedTables}
 use Rattle.algebra.proofs.Narrow.{Below}
 use Rattle.relation.specs.declared.Columns.{Columns}
 use Rattle.relation.specs.Rows.{colsOf}
-use Rattle.relation.proofs.Shows.{Shows}
+use Rattle.relation.specs.Shows.{Shows}
 use Rattle.relation.proofs.RowMappings.{mapping-domain}
 use Rattle.relation.proofs.ColumnsRound.{colsOf-below}
 use Rattle.database.specs.declared.Database.{Database}

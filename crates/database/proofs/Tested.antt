@@ -13,7 +13,7 @@ use Rattle.laws.specs.Lists.{all, every}
 use Rattle.laws.proofs.Tests.{true-false, and-true-left, and-true-right}
 use Rattle.laws.proofs.Options.{none-some, some-inj}
 use Rattle.relation.specs.Rows.{ascend, absentZero}
-use Rattle.relation.proofs.Shows.{Shows}
+use Rattle.relation.specs.Shows.{Shows}
 use Rattle.relation.proofs.Members.{every-in}
 use Rattle.relation.proofs.Shapes.{absent-shaped, rowsOf-sized}
 use Rattle.database.specs.declared.Database.{Database}

@@ -3,8 +3,6 @@ use mathlib.Core.Path.{_≡_, refl, ap, sym, _∙_, subst}
 use mathlib.Core.List.{List, [], _∷_}
 use Prim.Native.Nat.{ℕ}
 use Rattle.algebra.specs.Term.{Term}
-use Rattle.relation.specs.declared.Columns.{Columns}
-use Rattle.relation.specs.Rows.{Rows}
 use Rattle.database.specs.declared.Database.{Database}
 use Rattle.database.specs.declared.Refusal.{Refusal}
 use Rattle.database.specs.Stored.{SameColumns}
@@ -18,10 +16,6 @@ use Rattle.run.specs.Answered.{Means}
 use Rattle.engine.specs.Demands.{stepsOver, leftBy}
 use Rattle.run.proofs.Meaning.{executed}
 use Rattle.engine.proofs.RewritesInvisible.{OverColumns, rewrites-invisible}
-
-pub means-as : (w limit : ℕ) (q : Query) (d : Database) (store : List ℕ) {set set′ : Columns} {rows rows′ : Rows} → set ≡ set′ → rows ≡ rows′
-    → Means w limit q d store set rows → Means w limit q d store set′ rows′
-means-as w limit q d store e f m = record { term = m .term; checked = m .checked; columns = sym e ∙ m .columns; rows = rw (← f) (m .rows) }
 
 module _ (w limit : ℕ) (d : Database) (store : List ℕ) where
   same-columns : SameColumns w d d

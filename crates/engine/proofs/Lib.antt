@@ -6,5 +6,4 @@ pub mod StepLists
 pub mod Printed
 pub mod FewRows
 pub mod Roomy
-pub mod Ends
 pub mod LeftMeans

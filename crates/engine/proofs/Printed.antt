@@ -23,9 +23,9 @@ use Rattle.machine.specs.declared.Outcome.{Outcome}
 use Rattle.machine.specs.declared.Outcome.the-variants as outcome
 use Rattle.machine.specs.declared.Ran.{Ran}
 use Rattle.machine.specs.Run.{Answer, ranOf}
+use Rattle.run.proofs.Meaning.{Ended, ran-refused}
 use Rattle.engine.specs.Answer.{limits, replyText, answer}
 use Rattle.engine.specs.Stages.{causeOf, outcomeCause, answerBook, Writes}
-use Rattle.engine.proofs.Ends.{Ended, ran-refused}
 
 -- what `write_refusal` promises
 abbrev pub Refuses : List ℕ → List ℕ → Written → Refusal → Type 0
@@ -62,15 +62,15 @@ module _ {before after : List ℕ} {w : Written} where
       (subst (Refuses before after w) (cause ∙ ap outcomeCause ended) h)
 
   -- the run finishes
-  pub run-ends : {x s : Reply Answer} → x ≡ s → (n : ℕ) → n ≤ limits .rows → (set : Columns) (rows : Rows) (lines : ℕ) → Ended columns x set rows lines
+  pub run-ends : {x s : Reply Answer} → x ≡ s → (n : ℕ) → n ≤ limits .rows → (set : Columns) (rows : Rows) (lines : ℕ) → Ended x set rows n lines
       → (w ≡ writeReply (answerText columns set rows lines) before) × (after ≡ sliceAfter (answerText columns set rows lines) before)
       × (length (answerText columns set rows lines) ≤ answerRoom columns n)
       → Writes (replyText s) before w after
   run-ends {x} e n few set rows lines ended h =
       let a : Answer = ended .answer in
       let text : answerText columns set rows lines ≡ replyText (accepted a) =
-      ap (λ y. answerText columns y rows lines) (ended .cols) ∙ ap (λ y. answerText columns (a .columns) y lines) (ended .found)
-      ∙ ap (answerText columns (a .columns) (a .rows)) (ended .counted) in
+      ap (λ y. answerText columns y rows lines) (ended .columns) ∙ ap (λ y. answerText columns (a .columns) y lines) (ended .rows)
+      ∙ ap (answerText columns (a .columns) (a .rows)) (ended .lines) in
       let long : length (replyText (accepted a)) ≤ answerRoom columns 0 + n * rowRoom columns = rw (← text) (omega (arith, h .2)) in
       writes-as (sym e ∙ ended .accepts)
       (record { reply = h .0 ∙ ap (λ y. writeReply y before) text; slice = h .1 ∙ ap (λ y. sliceAfter y before) text; fits = omega arith })

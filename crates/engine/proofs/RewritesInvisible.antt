@@ -10,7 +10,7 @@ use Rattle.algebra.specs.Columns.{Cols, Schema, noCols, cols}
 use Rattle.algebra.specs.WellFormed.{Closed}
 use Rattle.algebra.proofs.Swap.{swap-refl}
 use Rattle.relation.specs.Rows.{columnsOf}
-use Rattle.relation.proofs.Shows.{Shows}
+use Rattle.relation.specs.Shows.{Shows}
 use Rattle.relation.proofs.Operators.{shows-map}
 use Rattle.relation.proofs.RowsUnique.{shows-unique}
 use Rattle.database.specs.declared.Database.{Database}

@@ -10,6 +10,7 @@ use lib.ListN.{length, take, length-take, length-map, length-append}
 use borrow.Author.Tests.{le-leb}
 use Rattle.algebra.specs.Term.{Term, table, var, fact, pair, filter, copy, drop, fix}
 use Rattle.algebra.specs.Columns.{size, fixes, fixNumbers}
+use Rattle.relation.specs.declared.Columns.{Columns}
 use Rattle.relation.specs.Rows.{Rows}
 use Rattle.database.specs.declared.Database.{Database}
 use Rattle.database.specs.declared.Refusal.the-variants.{RowLimit, ShortSlice}
@@ -22,6 +23,7 @@ use Rattle.query.specs.Check.{checkOver}
 use Rattle.query.proofs.Reading.{size-lines}
 use Rattle.query.proofs.CheckedOver.{check-over-iff}
 use Rattle.machine.specs.Run.{Answer, execute, spaceFor, begin, runQuery}
+use Rattle.run.proofs.Meaning.{Ended, executed}
 use Rattle.engine.proofs.FewRows.{few-answer}
 
 -- each fix is a node
@@ -72,3 +74,11 @@ module _ (w limit : ℕ) (q : Query) (d : Database) (store : List ℕ) where
             let enough = space-enough L t e in
             rw (runQuery, begin, e, limited, le-leb (spaceFor w L t) (length workspace) (omega arith))
             (ends t (execute (schema w d) (tableRows w d store) L budget t) refl)
+
+  -- a finished run's rows are within the row limit
+  pub few-ended : (L budget : ℕ) (workspace answer : List ℕ) {set : Columns} {rows : Rows} {n ran : ℕ}
+      → Ended (runQuery w limit q d store L budget workspace answer) set rows n ran → n ≤ L
+  few-ended L budget workspace answer e =
+      let (t, _, ran) = executed w limit q d store L budget workspace answer (e .answer) (e .accepts) in
+      let few = few-answer L (schema w d) (tableRows w d store) budget t (e .answer) ran in
+      omega (arith, e .count)

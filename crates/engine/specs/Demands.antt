@@ -5,7 +5,7 @@ use Prim.Native.Nat.{ℕ}
 use Rattle.algebra.specs.Term.{Term}
 use Rattle.algebra.specs.Columns.{noCols, cols}
 use Rattle.relation.specs.Rows.{columnsOf}
-use Rattle.relation.proofs.Shows.{Shows}
+use Rattle.relation.specs.Shows.{Shows}
 use Rattle.database.specs.declared.Database.{Database}
 use Rattle.database.specs.Stored.{schema}
 use Rattle.query.specs.declared.Query.{Query}

@@ -31,7 +31,7 @@ use Rattle.text.proofs.Forms.{in-range}
 use Rattle.text.proofs.Exact.{due-accepted, many-again}
 use Rattle.text.proofs.RowLines.{cols-exact}
 use Rattle.text.proofs.Tables.{table-exact}
-use Rattle.text.proofs.Entries.{entries-length}
+use Rattle.relation.proofs.Entries.{entries-length}
 use Rattle.text.proofs.ReadTables.{good-fits}
 use Rattle.text.proofs.ReaderLawsDue.{dueReply, due-reply, count-form}
 use Rattle.loading.specs.declared.table_reader.Walked.{Walked}

@@ -24,6 +24,10 @@ module _ (q : Query) (start : List ℕ) (s : Shaped q start) where
   pub start-low : (j : ℕ) → getD start j 0 ≤ j
   start-low j = rw (s .begins) (begins-low (s .term) j)
 
+  -- a node's first operand ends at k, where its last one ends at j
+  pub operand-low : (i j k : ℕ) → i < q .count → j ≡ i - 1 → k ≡ getD start j 0 - 1 → k < nodeLimit
+  operand-low i j k h e f = omega (arith, s .fits, start-low j)
+
   module _ (G : Schema) where
     pub nodes-are : visitsOf G q ≡ visits G noCols [] 0 (s .term)
     nodes-are = ap (visited G) (s .reads)

@@ -1,4 +1,3 @@
-pub mod Shows
 pub mod RowOrder
 pub mod Members
 pub mod Ascend
@@ -7,6 +6,7 @@ pub mod Sift
 pub mod RowMappings
 pub mod Shapes
 pub mod RowsUnique
+pub mod Entries
 pub mod Gather
 pub mod Kept
 pub mod Operators

@@ -13,7 +13,7 @@ use Rattle.laws.specs.Lists.{any, member, every}
 use Rattle.laws.proofs.Tests.{true-false, same?, or-false-left, or-false-right, and-true-right}
 use Rattle.laws.proofs.TextLists.{both-true}
 use Rattle.relation.specs.Rows.{Row, slot}
-use Rattle.relation.proofs.Shows.{Shaped}
+use Rattle.relation.specs.Shows.{Shaped}
 use Rattle.relation.proofs.Shapes.{zeros-shaped}
 use Rattle.text.specs.Lines.{ascending, filled}
 

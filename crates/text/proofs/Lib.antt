@@ -30,7 +30,6 @@ pub mod Completed
 pub mod FirstBadLine
 pub mod LinesBefore
 pub mod ColumnLists
-pub mod Entries
 pub mod StoredValues
 pub mod StoredTables
 pub mod ReadTables

@@ -12,7 +12,7 @@ use Rattle.laws.proofs.Lists.{all-true}
 use Rattle.laws.proofs.TextLists.{Each, each-map, each-at, every-each, each-every}
 use Rattle.algebra.specs.Columns.{Cols}
 use Rattle.relation.specs.Rows.{Row, Rows, slot, absentZero, ascend}
-use Rattle.relation.proofs.Shows.{Shaped}
+use Rattle.relation.specs.Shows.{Shaped}
 use Rattle.database.specs.Refusals.{accepted}
 use Rattle.database.specs.Stored.{tableLimit, rowsLimit, rowCount, tableStart, tableOk, checkDatabase}
 use Rattle.database.proofs.Stored.{checkDatabase-iff}

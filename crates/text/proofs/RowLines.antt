@@ -12,7 +12,7 @@ use Rattle.laws.proofs.Options.{none-some}
 use Rattle.laws.proofs.Tests.{and-true}
 use Rattle.laws.proofs.TextLists.{both-true, kept}
 use Rattle.relation.specs.Rows.{Row, slot}
-use Rattle.relation.proofs.Shows.{Shaped}
+use Rattle.relation.specs.Shows.{Shaped}
 use Rattle.text.specs.Numbers.{bytes, commaDigits}
 use Rattle.text.specs.Lines.{numbersAfter, ascending, colsLine, filled, follows, rowOf, rowLine}
 use Rattle.text.proofs.NumberLists.{AllSmall}

@@ -15,7 +15,7 @@ use Rattle.laws.proofs.RowLists.{length-tabulate, getD-tabulate}
 use Rattle.laws.proofs.TextLists.{Each, each-map, each-both, each-tabulate, each-every, both-true, flatMap-append}
 use Rattle.algebra.specs.Columns.{Cols}
 use Rattle.relation.specs.Rows.{Row, Rows, slot, In, here, there, rowsOf, entries, absentZero, ascend}
-use Rattle.relation.proofs.Shows.{Shaped}
+use Rattle.relation.specs.Shows.{Shaped}
 use Rattle.database.specs.declared.Database.{Database}
 use Rattle.database.specs.Refusals.{accepted}
 use Rattle.database.specs.Stored.{tableLimit, rowsLimit, tableCols, rowCount, tableStart, tableRows, schema, tableOk, checkDatabase}
@@ -27,7 +27,7 @@ use Rattle.text.proofs.NumberLists.{AllSmall}
 use Rattle.text.proofs.RowLines.{GoodColumns, GoodRow}
 use Rattle.text.proofs.Tables.{GoodTable}
 use Rattle.text.proofs.ColumnLists.{columns-null, columns-ascend, columns-member}
-use Rattle.text.proofs.Entries.{rowsOf-length, entries-rowsOf}
+use Rattle.relation.proofs.Entries.{rowsOf-length, entries-rowsOf}
 use Rattle.text.proofs.StoredValues.{noTable, storedTable, Fits, value-cols, value-rows}
 
 -- small entries: of a part, and of a row's slots

@@ -18,7 +18,7 @@ use Rattle.database.specs.Stored.{tableCols, rowCount, tableStart, tableRows}
 use Rattle.text.specs.Lines.{ascending}
 use Rattle.text.specs.Texts.{Table, columnList, databaseValue, tableEntries, storedTables}
 use Rattle.text.proofs.ColumnLists.{columns-own}
-use Rattle.text.proofs.Entries.{rowsOf-entries, entries-length}
+use Rattle.relation.proofs.Entries.{rowsOf-entries, entries-length}
 
 -- what stands past the last table
 abbrev pub noTable : Table

@@ -43,7 +43,7 @@ use Rattle.text.specs.Numbers.{bytes, comma, digits, commaDigits}
 use Rattle.text.specs.Texts.{columnList, lineText, rowsText, answerText, refusalText}
 use Rattle.text.proofs.Digits.{few?}
 use Rattle.text.proofs.ColumnLists.{columns-ascend}
-use Rattle.text.proofs.Entries.{rowsOf-length}
+use Rattle.relation.proofs.Entries.{rowsOf-length}
 use Rattle.writing.specs.Rooms.{placeDigits, valueDigits, numberDigits, lineRoom, rowRoom, refusalRoom, answerRoom}
 use Rattle.writing.proofs.LastDigit.{digits-few, digits-more}
 

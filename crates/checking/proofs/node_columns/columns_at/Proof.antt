@@ -13,7 +13,7 @@ use Rattle.query.specs.declared.Node.{Node}
 use Rattle.query.specs.Lines.{nodeLimit}
 use Rattle.query.specs.Passes.{visitAt}
 use Rattle.checking.specs.NodeColumns.{nodeColumns}
-use Rattle.query.proofs.ShapedNodes.{start-low}
+use Rattle.query.proofs.ShapedNodes.{operand-low}
 use Rattle.checking.proofs.ColumnNodes.{colsFrom, cols-at}
 use Rattle.checking.proofs.node_columns.columns_at.Statement.{statement}
 use Rattle.checking.proofs.node_columns.columns_at.Tie as tie
@@ -21,14 +21,7 @@ use Rattle.checking.proofs.node_columns.columns_at.Tie as tie
 lower : (c : tie.After-preceding2) → c .preceding2 .result < nodeLimit
 lower c =
     let s = c .before .before .before in
-    omega (
-      arith,
-      c .before .preceding .ensures,
-      s .pre .1,
-      s .pre .0 .fits,
-      c .preceding2 .ensures,
-      start-low (s .args .query) (s .args .t3) (s .pre .0) (c .before .preceding .result),
-    )
+    operand-low (s .args .query) (s .args .t3) (s .pre .0) (s .args .i) _ _ (s .pre .1) (c .before .preceding .ensures) (c .preceding2 .ensures)
 
 -- what the code has found, by the line
 module _ (c : tie.After-left) where

@@ -17,7 +17,7 @@ use Rattle.query.specs.declared.Node.{Node}
 use Rattle.query.specs.Lines.{nodeLimit}
 use Rattle.query.specs.Check.{unless}
 use Rattle.query.specs.Passes.{visitsOf, visitAt, secondAt}
-use Rattle.query.proofs.ShapedNodes.{start-low}
+use Rattle.query.proofs.ShapedNodes.{operand-low}
 use Rattle.checking.proofs.FaultNodes.{faultOf, fault-at}
 use Rattle.checking.proofs.second_pass.second_fault.Statement.{statement}
 use Rattle.checking.proofs.second_pass.second_fault.Tie as tie
@@ -25,14 +25,7 @@ use Rattle.checking.proofs.second_pass.second_fault.Tie as tie
 lower : (c : tie.After-preceding2) → c .preceding2 .result < nodeLimit
 lower c =
     let s = c .before .before .before in
-    omega (
-      arith,
-      c .before .preceding .ensures,
-      s .pre .3,
-      s .pre .0 .fits,
-      c .preceding2 .ensures,
-      start-low (s .args .query) (s .args .t3) (s .pre .0) (c .before .preceding .result),
-    )
+    operand-low (s .args .query) (s .args .t3) (s .pre .0) (s .args .i) _ _ (s .pre .3) (c .before .preceding .ensures) (c .preceding2 .ensures)
 
 -- what the code has found, by the line
 module _ (c : tie.After-left) where

@@ -4,8 +4,8 @@ use mathlib.Core.Path.{_≡_, refl}
 use denote.Ref.{now}
 use Rattle.relation.specs.Rows.{columns}
 use Rattle.engine.specs.Answer.{limits}
-use Rattle.engine.proofs.Roomy.{roomy-run}
-use Rattle.engine.proofs.Ends.{few-ended, run-ended}
+use Rattle.run.proofs.Meaning.{run-ended}
+use Rattle.engine.proofs.Roomy.{roomy-run, few-ended}
 use Rattle.engine.proofs.Printed.{run-stops, run-ends}
 use Rattle.engine.proofs.stages.answer_run.Statement.{statement}
 use Rattle.engine.proofs.stages.answer_run.Tie as tie
@@ -23,13 +23,11 @@ returns-2 c =
     let s = c .before .before .before .before .before .before .before .before .before .before .before .before .before .before .before .before .args in
     let g = c .before .before .before .before .before .before .outcome .given in
     let r = c .before .before .before .before .before .before .before .before .before .before .before .run in
+    let e = run-ended columns (limits .nodes) (s .query) (s .database) (now (s .store)) (limits .rows) (limits .lines) _ _ (r .result) (r .ensures .0 .0) _ (r .ensures .0 .2)
+    (g .0 .0) (g .0 .1 .0) (g .1) in
     run-ends (roomy-run columns (limits .nodes) (s .query) (s .database) (now (s .store)) (limits .rows) (limits .lines) _ _ refl (omega arith) (omega arith))
-    (g .0 .0)
-    (few-ended columns (limits .nodes) (s .query) (s .database) (now (s .store)) (limits .rows) (limits .lines) _ _ (r .result) (r .ensures .0 .0) (g .0 .0) (g .0 .1 .0) (g .1))
-    _ _ (g .0 .1 .0)
-    (run-ended columns (limits .nodes) (s .query) (s .database) (now (s .store)) (limits .rows) (limits .lines) _ _ (r .result) (r .ensures .0 .0) _ (r .ensures .0 .2)
-    (g .0 .0) (g .0 .1 .0) (g .1))
-    (c .before .before .write-answer .ensures)
+    (g .0 .0) (few-ended columns (limits .nodes) (s .query) (s .database) (now (s .store)) (limits .rows) (limits .lines) _ _ e)
+    _ _ (g .0 .1 .0) e (c .before .before .write-answer .ensures)
 
 pub answer-run-spec : {M : Type 1} → statement M
 answer-run-spec =

@@ -12,9 +12,9 @@ use Rattle.query.specs.Lines.{nodeLimit}
 use Rattle.machine.specs.declared.Ran.{Ran}
 use Rattle.machine.specs.Run.{runQuery, begin, ranOf, workspaceAfter, answerAfter}
 use Rattle.run.specs.Answered.{Means}
+use Rattle.run.proofs.Meaning.{run-ended, means-as}
 use Rattle.engine.specs.Demands.{leftBy}
-use Rattle.engine.proofs.Ends.{run-ended}
-use Rattle.engine.proofs.LeftMeans.{left-means, means-as}
+use Rattle.engine.proofs.LeftMeans.{left-means}
 use Rattle.engine.proofs.steps.run_rewritten.Statement.{statement}
 use Rattle.engine.proofs.steps.run_rewritten.Tie as tie
 
@@ -41,7 +41,7 @@ returns c =
       e,
       λ found ran ended.
           let x = run-ended columns limit q (s .database) (now (s .store)) (s .rows) (s .budget) (now (s .workspace)) (now (s .answer)) (r .result) (e .0) _ (e .2) found ran ended in
-          means-as columns limit (s .query) (s .database) (now (s .store)) (sym (x .cols)) (sym (x .found))
+          means-as columns limit (s .query) (s .database) (now (s .store)) (x .columns) (x .rows)
           (left-means columns limit (s .database) (now (s .store)) (s .query) (now (s .steps)) (s .rows) (s .budget) (now (s .workspace)) (now (s .answer)) (x .answer) (x .accepts)),
     )
 

@@ -5,7 +5,7 @@ use mathlib.Core.List.{_++_, map}
 use Rattle.relation.specs.Rows.{columns as width, slot, colsOf}
 use Rattle.text.specs.Numbers.{bytes, commaDigits, digits}
 use Rattle.text.specs.Texts.{answerText, rowsText, columnList, lineText}
-use Rattle.text.proofs.Entries.{rowsOf-length}
+use Rattle.relation.proofs.Entries.{rowsOf-length}
 use Rattle.writing.proofs.Puts.{puts-then, puts-as}
 use Rattle.writing.proofs.AnswerLines.{numbers-read}
 use Rattle.writing.proofs.writers.put_answer.Statement.{statement}
