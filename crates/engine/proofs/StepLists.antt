@@ -1,17 +1,13 @@
 -- Lists of steps, in a slice of kinds and nodes and in a steps file: what is left of them after each.
-use mathlib.Core.Path.{_≡_, refl, ap, sym, _∙_, subst}
-use mathlib.Core.Bool.{Bool, true, false}
+use mathlib.Core.Path.{_≡_, refl, ap, _∙_, subst}
+use mathlib.Core.Bool.{false}
 use mathlib.Core.Option.{Option, some, none}
 use mathlib.Core.List.{List, [], _∷_}
 use Prim.Native.Nat.{ℕ, zero, suc, _+_, _-_, _*_, _≤_, _<_}
 use native.Mathlib.Omega.{arith}
-use lib.ListN.{length, take, drop, getD, length-drop, drop-of-length-le}
+use lib.ListN.{length, drop, getD, length-drop, drop-of-length-le}
 use lib.Seq.{drop-cons}
-use lib.Dec.{ltb}
-use borrow.Author.Tests.{ltb-true, ltb-false}
 use Rattle.laws.specs.Lists.{null}
-use Rattle.laws.specs.Options.{mapped}
-use Rattle.laws.proofs.Options.{none-some, some-inj}
 use Rattle.relation.specs.Rows.{columns}
 use Rattle.database.specs.declared.Database.{Database}
 use Rattle.database.specs.declared.Refusal.{Refusal}
@@ -21,9 +17,9 @@ use Rattle.query.specs.declared.Query.{Query}
 use Rattle.text.specs.declared.DueStep.the-variants as step
 use Rattle.text.specs.declared.line_reader.Cursor.{Cursor}
 use Rattle.text.specs.Lines.{Rest, KindNode, due, whole, stepLine}
-use Rattle.text.specs.Cursors.{cursor, restAt, lineEnd, behindLine, dueLine}
+use Rattle.text.specs.Cursors.{cursor, restAt, dueLine}
 use Rattle.text.specs.Replies.{stepDue}
-use Rattle.text.proofs.ReaderLawsDue.{dueReply, due-reply, due-read, due-missing}
+use Rattle.text.proofs.ReaderLawsDue.{dueReply, due-reply, due-behind}
 use Rattle.rewrite.specs.Rewrite.{rewrite, handedBack, held}
 use Rattle.engine.specs.Answer.{limits, applySteps}
 use Rattle.engine.specs.Demands.{stepsOver}
@@ -64,18 +60,6 @@ next-some (some (s, c)) k n at e =
     let y : s .node ≡ n = cc in
     let z : c .at ≡ at = cc in
     (c, ap (λ m. some (record { kind = m; node = s .node }, c)) x ∙ ap (λ m. some (record { kind = k; node = m }, c)) y, z)
-
--- the cursor behind a line stands further on
-due-behind : {A : Type 0} (form : List ℕ → Option A) (text : List ℕ) (c : Cursor) (p : A × Cursor) → dueLine form text c ≡ some p → c .at < p .1 .at
-due-behind form text c p e = by-test (ltb (lineEnd text c) (length text)) refl
-  where
-    by-case : (o : Option _) → mapped (λ a. (a, behindLine c (lineEnd text c))) o ≡ some p → c .at < p .1 .at
-    by-case none q = none-some q
-    by-case (some a) q = rw (← some-inj q) (omega arith)
-
-    by-test : (t : Bool) → ltb (lineEnd text c) (length text) ≡ t → c .at < p .1 .at
-    by-test true q = by-case (form (take (lineEnd text c - c .at) (drop (c .at) text))) (sym (due-read form text c (lineEnd text c) refl (ltb-true _ _ q)) ∙ e)
-    by-test false q = none-some (sym (due-missing form text c (lineEnd text c) refl (ltb-false _ _ q)) ∙ e)
 
 no-lines : (n line : ℕ) (m : List ℕ) → m ≡ [] → (d : Database) (store : List ℕ) (p : Query)
     → applySteps n (record { line = line; bytes = m }) d store p ≡ accepted p
@@ -134,7 +118,7 @@ module _ (d : Database) (store text : List ℕ) (q : Query) where
         pub due-on : place < at
         due-on =
             let (c, f, g) = found in
-            let later = due-behind stepLine text (cursor place (x .line)) _ f in
+            let (_, later, _) = due-behind stepLine text (cursor place (x .line)) _ f in
             omega arith
 
         pub due-refused : (r : Refusal) → rewrite columns (limits .nodes) p d store k n ≡ refused r

@@ -158,8 +158,12 @@ fn read_table(text: &[u8], c: Cursor, store: &mut [u32], from: usize, write: boo
         return bad_table(c.line);
     };
     let cols = read.cols;
-    let DueCount::Count(count, first) = due_count(text, second, b"rows=", TABLE_ROWS as u32) else {
+    let DueCount::Count(count, at) = due_count(text, second.at, b"rows=", TABLE_ROWS as u32) else {
         return bad_table(second.line);
+    };
+    let first = Cursor {
+        at,
+        line: second.line + 1,
     };
     let walked = read_rows(text, first, cols, count, store, from, write);
     ReadTable {

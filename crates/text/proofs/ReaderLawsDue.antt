@@ -23,7 +23,7 @@ use Rattle.text.specs.declared.line_reader.Opened.the-variants as opened
 use Rattle.text.specs.Numbers.{bytes, newline}
 use Rattle.text.specs.Lines.{Rest, whole, firstLine, due, headerLine, countLine, inRange, ifOne}
 use Rattle.text.specs.Readings.{before, numbersBehind}
-use Rattle.text.specs.Cursors.{restAt, Placed, lineEnd, behindLine, dueLine, wordForm, wordReply, countForm, countReply, start, counted, headed, openedAt}
+use Rattle.text.specs.Cursors.{restAt, cursor, Placed, lineEnd, behindLine, dueLine, wordForm, wordReply, countForm, countReply, start, counted, headed, openedAt}
 use Rattle.text.proofs.ReaderLawsLines.{first-line, no-line, found-part, found-rest, found-outside}
 use Rattle.text.proofs.ReaderLawsForms.{word-form, one-form}
 
@@ -95,16 +95,29 @@ module _ {A : Type 0} (form : List ℕ → Option A) (text : List ℕ) (c : Curs
         by-test true e = due-inside (ltb-true _ _ e)
         by-test false e = due-outside (ltb-false _ _ e)
 
-  pub due-placed : (p : A × Cursor) → dueLine form text c ≡ some p → Placed c → Placed (p .1)
-  due-placed p e h = by-test (ltb (lineEnd text c) (length text)) refl
-    where
-      by-case : (o : Option A) → mapped (λ a. (a, behindLine c (lineEnd text c))) o ≡ some p → Placed (p .1)
-      by-case none q = none-some q
-      by-case (some a) q = rw (← some-inj q) (omega arith)
+  -- the cursor behind a due line has the next number and stands further on, within the text
+  abbrev Behind : Cursor → Type 0
+  Behind d = (d .line ≡ c .line + 1) × (c .at < d .at) × (d .at ≤ length text)
 
-      by-test : (t : Bool) → ltb (lineEnd text c) (length text) ≡ t → Placed (p .1)
-      by-test true q = by-case (form (take (lineEnd text c - c .at) (drop (c .at) text))) (sym (due-read (lineEnd text c) refl (ltb-true _ _ q)) ∙ e)
+  pub due-behind : (p : A × Cursor) → dueLine form text c ≡ some p → Behind (p .1)
+  due-behind p e = by-test (ltb (lineEnd text c) (length text)) refl
+    where
+      by-case : lineEnd text c < length text → (o : Option A) → mapped (λ a. (a, behindLine c (lineEnd text c))) o ≡ some p → Behind (p .1)
+      by-case h none q = none-some q
+      by-case h (some a) q = rw (← some-inj q) (refl, omega arith, omega arith)
+
+      by-test : (t : Bool) → ltb (lineEnd text c) (length text) ≡ t → Behind (p .1)
+      by-test true q =
+          let h = ltb-true _ _ q in
+          by-case h (form (take (lineEnd text c - c .at) (drop (c .at) text))) (sym (due-read (lineEnd text c) refl h) ∙ e)
       by-test false q = none-some (sym (due-missing (lineEnd text c) refl (ltb-false _ _ q)) ∙ e)
+
+  pub due-placed : (p : A × Cursor) → dueLine form text c ≡ some p → Placed c → Placed (p .1)
+  due-placed p e h = let (next, further, _) = due-behind p e in omega arith
+
+  -- a line that is there has no higher number than the text has bytes
+  pub due-number : (p : A × Cursor) → dueLine form text c ≡ some p → Placed c → c .line ≤ length text
+  due-number p e h = let (_, further, within) = due-behind p e in omega arith
 
 -- the header line and the lines with a count, by the bytes of their keys
 pub header-form : headerLine ≡ wordForm (bytes "guide=1")
@@ -178,9 +191,15 @@ pub count-bad : (o : Option (ℕ × Cursor)) → count.Bad ≡ countReply o → 
 count-bad none e = refl
 count-bad (some p) e = let z : _≡_ {A = ℕ} 0 1 = cc in let w : ⊥ = omega arith in absurd w
 
-pub count-next : (o : Option (ℕ × Cursor)) (n : ℕ) (c : Cursor) → count.Count n c ≡ countReply o → o ≡ some (n, c)
-count-next none n c e = let z : _≡_ {A = ℕ} 0 1 = cc in let w : ⊥ = omega arith in absurd w
-count-next (some p) n c e =
-    let x : p .0 ≡ n = cc in
-    let y : p .1 ≡ c = cc in
-    ap (λ n. some (n, p .1)) x ∙ ap (λ c. some (n, c)) y
+-- the place replied is that of the line with the next number
+pub count-next : (form : List ℕ → Option ℕ) (text : List ℕ) (c : Cursor) (n at : ℕ) → count.Count n at ≡ countReply (dueLine form text c)
+    → dueLine form text c ≡ some (n, cursor at (c .line + 1))
+count-next form text c n at e = by-case (dueLine form text c) refl e
+  where
+    by-case : (o : Option (ℕ × Cursor)) → dueLine form text c ≡ o → count.Count n at ≡ countReply o → o ≡ some (n, cursor at (c .line + 1))
+    by-case none q e = let z : _≡_ {A = ℕ} 0 1 = cc in let w : ⊥ = omega arith in absurd w
+    by-case (some p) q e =
+        let x : p .0 ≡ n = cc in
+        let y : p .1 .at ≡ at = cc in
+        let (next, _, _) = due-behind form text c p q in
+        ap (λ n. some (n, p .1)) x ∙ ap (λ at. some (n, cursor at (p .1 .line))) y ∙ ap (λ line. some (n, cursor at line)) next

@@ -51,7 +51,7 @@ wordReply (some p) = word.Next (p .1)
 
 abbrev pub countReply : Option (ℕ × Cursor) → DueCount
 countReply none = count.Bad
-countReply (some p) = count.Count (p .0) (p .1)
+countReply (some p) = count.Count (p .0) (p .1 .at)
 
 abbrev pub nodeDue : Option (Node × Cursor) → DueNode
 nodeDue none = node.Bad

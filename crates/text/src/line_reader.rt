@@ -1,11 +1,11 @@
 // Lines of a text and what stands in them: a word, or a key with numbers behind it.
 ghost use mathlib.Core.Path.{_≡_};
-ghost use Prim.Native.Nat.{_+_, _≤_};
+ghost use Prim.Native.Nat.{ℕ, _+_, _≤_};
 ghost use lib.ListN.{length, drop};
 ghost use Rattle.text.specs.Lines.{after, ifOne, ifTwo};
 ghost use Rattle.laws.specs.Options.{present};
 ghost use Rattle.text.specs.Numbers.{numbers};
-ghost use Rattle.text.specs.Cursors.{Placed, dueLine, wordForm, wordReply, countForm, countReply, openedAt};
+ghost use Rattle.text.specs.Cursors.{cursor, Placed, dueLine, wordForm, wordReply, countForm, countReply, openedAt};
 ghost use Rattle.text.specs.Readings.{numberReply, pairReply, isWord, before, numbersBehind, paired};
 use crate::number_reader::ReadNumber;
 use crate::number_reader::read_number;
@@ -28,9 +28,9 @@ pub enum Due {
     Bad,
 }
 
-// What a due line with a count replies.
+// What a due line with a count replies: the count, and where the next line begins.
 pub enum DueCount {
-    Count(u32, Cursor),
+    Count(u32, usize),
     Bad,
 }
 
@@ -161,28 +161,18 @@ fn read_count(line: &[u8], key: &[u8], most: u32) -> ReadNumber
     }
 }
 
-// A due line with a count, at a cursor of the text.
-pub fn due_count(text: &[u8], c: Cursor, key: &[u8], most: u32) -> DueCount
-    ensures { λ r. ⌜ (Placed c → r ≡ countReply (dueLine (countForm (now (key .entry)) most) (now (text .entry)) c)) ⌝ }
+// The line with a count that begins at a place of a text, whatever its number.
+pub fn due_count(text: &[u8], at: usize, key: &[u8], most: u32) -> DueCount
+    ensures { λ r. ⌜ ((line : ℕ) → r ≡ countReply (dueLine (countForm (now (key .entry)) most) (now (text .entry)) (cursor at line))) ⌝ }
 {
-    let at = c.at;
     let end = find(text, at, b'\n');
     if text.len() <= end {
         return DueCount::Bad;
     }
-    if end + 1 < c.line {
-        return DueCount::Bad; // no cursor has so high a line
-    }
     let ReadNumber::Value(n) = read_count(&text[at..end], key, most) else {
         return DueCount::Bad;
     };
-    DueCount::Count(
-        n,
-        Cursor {
-            at: end + 1,
-            line: c.line + 1,
-        },
-    )
+    DueCount::Count(n, end + 1)
 }
 
 // The lines that open a text: `guide=1`, and a line with a count.
@@ -193,8 +183,14 @@ pub fn read_opening(text: &[u8], key: &[u8], most: u32) -> Opened
     let Due::Next(second) = due_word(text, start, b"guide=1") else {
         return Opened::Bad(1);
     };
-    let DueCount::Count(n, third) = due_count(text, second, key, most) else {
+    let DueCount::Count(n, at) = due_count(text, second.at, key, most) else {
         return Opened::Bad(second.line);
     };
-    Opened::Count(n, third)
+    Opened::Count(
+        n,
+        Cursor {
+            at,
+            line: second.line + 1,
+        },
+    )
 }

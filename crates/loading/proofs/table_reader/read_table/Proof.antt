@@ -1,6 +1,6 @@
 use borrow.Author.Needs.{needs}
 use native.Mathlib.Omega.{arith}
-use Prim.Native.Nat.{ℕ, _≤_}
+use Prim.Native.Nat.{ℕ, _+_, _≤_}
 use mathlib.Core.Path.{_≡_, refl, sym, _∙_, subst}
 use mathlib.Core.Option.{Option, some}
 use mathlib.Core.List.{List}
@@ -13,7 +13,7 @@ use Rattle.text.specs.declared.line_reader.Cursor.{Cursor}
 use Rattle.text.specs.Numbers.{bytes}
 use Rattle.text.specs.Lines.{colsLine}
 use Rattle.text.specs.Cursors.{Placed, dueLine, countForm, countReply}
-use Rattle.text.proofs.ReaderLawsDue.{due-placed, count-bad, count-next}
+use Rattle.text.proofs.ReaderLawsDue.{due-placed, due-number, count-bad, count-next}
 use Rattle.loading.specs.declared.row_reader.DueCols.{DueCols}
 use Rattle.loading.specs.NumberArrays.{listed}
 use Rattle.loading.specs.Loading.{Walks, tableStored, GoodTable}
@@ -82,7 +82,7 @@ module _ (c : tie.After-due-count) where
 
   counted : c .due-count .result ≡ countReply count-line
   unfolding bytes
-  counted = c .due-count .ensures (second-placed due-read)
+  counted = c .due-count .ensures (second due-read .line)
 
 returns-2 : tie.Need-returns-2
 returns-2 c =
@@ -105,14 +105,22 @@ module _ (c : tie.After-count) where
   n = c .count .given .0 .0
 
   abbrev first : Cursor
-  first = c .count .given .0 .1 .0
+  first = record { at = c .count .given .0 .1 .0; line = second (due-read count-read) .line + 1 }
 
   is-counted : count-line count-read ≡ some (n, first)
-  is-counted = count-next (count-line count-read) n first (sym (c .count .given .1) ∙ counted count-read)
+  is-counted =
+      let d = due-read count-read in
+      count-next (countForm (bytes "rows=") rowsLimit) (text (cols-read d)) (second d) n (first .at) (sym (c .count .given .1) ∙ counted count-read)
+
+add-line : tie.Need-add-t19
+add-line c =
+    let k = c .before .before in
+    let d = due-read (count-read k) in
+    omega (arith, due-number (countForm (bytes "rows=") rowsLimit) (text (cols-read d)) (second d) (n k, first k) (is-counted k) (second-placed d))
 
 read-rows-requires : tie.Need-read-rows-requires
 read-rows-requires c κs =
-    let k = c .before .before in
+    let k = c .before .before .before in
     let d = due-read (count-read k) in
     let t = cols-read d in
     let s = start t in (
@@ -126,7 +134,7 @@ read-rows-requires c κs =
 returns-3 : tie.Need-returns-3
 returns-3 c =
     let r = c .before .before .before .read-rows in
-    let k = c .before .before .before .before .before .before in
+    let k = c .before .before .before .before .before .before .before in
     let d = due-read (count-read k) in
     let t = cols-read d in
     let s = start t in (
@@ -140,5 +148,5 @@ pub read-table-spec : {M : Type 1} → statement M
 read-table-spec =
     tie.close
     (tie.spec (λ c κs. c .before .before .pre .0) (λ c. search needs) (λ c. search needs) (λ c κs. search needs) returns (λ c. search needs) (λ c. search needs)
-    (λ c κs. search needs) (λ c. search needs) (λ c. search needs) (λ c κs. search needs) returns-2 read-rows-requires
-    (λ c κs. few-columns (due-read (count-read (c .before .before .before .before .before)))) (λ c. search needs) (λ c. search needs) returns-3)
+    (λ c κs. search needs) (λ c. search needs) (λ c. search needs) (λ c κs. search needs) returns-2 add-line read-rows-requires
+    (λ c κs. few-columns (due-read (count-read (c .before .before .before .before .before .before)))) (λ c. search needs) (λ c. search needs) returns-3)
