@@ -7,10 +7,11 @@ use reference::check::check;
 use reference::plan::{plan, Machine, Operation, Plan};
 use reference::run::workspace_entries;
 use reference::text::{print_database, read_database, read_query};
-use reference::value::{Database, Query};
+use reference::value::{Database, Query, TABLE_ROWS};
 
-pub const ROWS: u32 = 4096;
-pub const BUDGET: u32 = u32::MAX;
+/// The rows that an answer slice has room for.
+pub const ROWS: u32 = TABLE_ROWS;
+const BUDGET: u32 = u32::MAX;
 
 /// What a run gives: its rows, ascending, and the lines run.
 #[derive(Debug, PartialEq, Eq)]
@@ -36,6 +37,7 @@ pub struct Engine {
     workspace: Vec<u32>,
     answer: Vec<u32>,
     told: [u32; 3],
+    limit: u32,
 }
 
 impl Engine {
@@ -48,6 +50,7 @@ impl Engine {
             workspace: Vec::new(),
             answer: vec![0; COLUMNS * ROWS as usize],
             told: [0; 3],
+            limit: workload.limit,
         };
         let Engine { query, database, store, .. } = &mut engine;
         // SAFETY: each pointer and length is that of one slice, and the written ones are borrowed here alone.
@@ -68,7 +71,7 @@ impl Engine {
         }
         let nodes = engine.query[0] as usize;
         let fixes = engine.query[1..].chunks(3).take(nodes).filter(|line| line[0] == 13).count();
-        engine.workspace = vec![0; workspace_entries(nodes + fixes, ROWS)];
+        engine.workspace = vec![0; workspace_entries(nodes + fixes, workload.limit)];
         engine
     }
 
@@ -84,7 +87,7 @@ impl Engine {
                 self.store.as_ptr(),
                 self.store.len(),
                 NODES,
-                ROWS as usize,
+                self.limit as usize,
                 BUDGET,
                 self.workspace.as_mut_ptr(),
                 self.workspace.len(),
@@ -115,6 +118,7 @@ pub struct Reference {
     workspace: Vec<u32>,
     answer: Vec<u32>,
     told: Option<(u32, u32)>,
+    limit: u32,
 }
 
 impl Reference {
@@ -127,14 +131,16 @@ impl Reference {
             None => query,
         };
         let registers = plan_of(&query, &database).registers;
-        let workspace = vec![0; workspace_entries(registers, ROWS)];
-        Reference { query, database, workspace, answer: vec![0; COLUMNS * ROWS as usize], told: None }
+        let limit = workload.limit;
+        let workspace = vec![0; workspace_entries(registers, limit)];
+        let answer = vec![0; COLUMNS * ROWS as usize];
+        Reference { query, database, workspace, answer, told: None, limit }
     }
 
     /// One run, checking and compiling included.
     pub fn run(&mut self) {
         let told =
-            reference::run::run(&self.database, &self.query, ROWS, BUDGET, &mut self.workspace, &mut self.answer);
+            reference::run::run(&self.database, &self.query, self.limit, BUDGET, &mut self.workspace, &mut self.answer);
         self.told = Some(told.map(|told| (told.rows, told.ran)).expect("a finished run"));
     }
 
@@ -159,7 +165,7 @@ impl Reference {
                 Operation::Again { .. } => of(&machine, line.destination),
                 _ => 0,
             };
-            machine.step(&plan, &tables, ROWS as usize, BUDGET).expect("a finished run");
+            machine.step(&plan, &tables, self.limit as usize, BUDGET).expect("a finished run");
             touched += of(&machine, line.destination);
             if let Operation::Start { delta } | Operation::Again { delta } = line.operation {
                 touched += of(&machine, delta);

@@ -1,5 +1,5 @@
-//! The engine's run, the reference's plan interpreter and SQLite on the same inputs. The program `agree` compares the first
-//! two, `measure` compares and times all three; bench/run makes the table and the picture of what it writes.
+//! What is timed: the workloads, and the engine and the reference on each. The program `measure` times them and SQLite;
+//! bench/run makes the table and the picture of what it writes. tests/differential compares the two on every workload.
 
 pub mod engines;
 pub mod workloads;

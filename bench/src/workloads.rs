@@ -2,7 +2,7 @@
 
 use reference::algebra::{Columns, Relation, Row};
 use reference::random::Random;
-use reference::value::Database;
+use reference::value::{Database, TABLE_ROWS};
 
 pub struct Workload {
     pub name: String,
@@ -13,6 +13,8 @@ pub struct Workload {
     pub tables: Vec<(Columns, Relation)>,
     /// Tables are t0, t1, ..., their columns c0 to c7. The result's columns ascend.
     pub sql: String,
+    /// The row limit of the run.
+    pub limit: u32,
     /// SQLite's indexes where it has some.
     pub indexes: &'static [&'static str],
     pub recursive: bool,
@@ -42,6 +44,7 @@ fn closure() -> Workload {
         step: None,
         tables: Vec::new(),
         sql: format!("{SQL_REACH} SELECT c0, c1 FROM r"),
+        limit: TABLE_ROWS,
         indexes: &["t0(c0, c1)"],
         recursive: true,
     }
@@ -69,6 +72,11 @@ fn pushed(from: u32) -> Workload {
     }
 }
 
+/// The same with a row limit, and so a workspace, nearer to what it needs.
+fn within(limit: u32, asked: Workload) -> Workload {
+    Workload { name: format!("{}, L = {limit}", asked.name), limit, ..asked }
+}
+
 fn two_closures() -> Workload {
     Workload {
         name: "join of two closures".to_string(),
@@ -79,6 +87,7 @@ fn two_closures() -> Workload {
             "{SQL_REACH}, s(c0, c3) AS (SELECT c0, c3 FROM t1 UNION SELECT s.c0, t1.c3 FROM s JOIN t1 ON t1.c0 = s.c3) \
              SELECT r.c0, r.c1, s.c3 FROM r JOIN s ON s.c0 = r.c0"
         ),
+        limit: TABLE_ROWS,
         indexes: &["t0(c0, c1)", "t1(c0, c3)"],
         recursive: true,
     }
@@ -106,6 +115,7 @@ fn except_inside() -> Workload {
         sql: "WITH RECURSIVE r(c0, c1) AS (SELECT c0, c1 FROM t0 UNION SELECT r.c0, t0.c1 FROM r JOIN t0 ON t0.c0 = r.c1 \
               WHERE NOT EXISTS (SELECT 1 FROM t1 WHERE t1.c1 = t0.c1)) SELECT c0, c1 FROM r"
             .to_string(),
+        limit: TABLE_ROWS,
         indexes: &["t0(c0, c1)", "t1(c1)"],
         recursive: true,
     }
@@ -122,6 +132,7 @@ fn wide_closure() -> Workload {
               UNION SELECT r.c0, t1.c1, r.c3, r.c4, r.c5, r.c6, r.c7 FROM r JOIN t1 ON t1.c0 = r.c1) \
               SELECT c0, c1, c3, c4, c5, c6, c7 FROM r"
             .to_string(),
+        limit: TABLE_ROWS,
         indexes: &["t1(c0, c1)"],
         recursive: true,
     }
@@ -135,6 +146,7 @@ fn wide_join() -> Workload {
         tables: Vec::new(),
         sql: "SELECT t0.c0, t0.c1, t0.c2, t0.c3, t0.c4, t1.c5, t1.c6, t1.c7 FROM t0 JOIN t1 ON t1.c4 = t0.c4"
             .to_string(),
+        limit: TABLE_ROWS,
         indexes: &["t1(c4, c5, c6, c7)"],
         recursive: false,
     }
@@ -147,6 +159,7 @@ fn product() -> Workload {
         step: None,
         tables: Vec::new(),
         sql: "SELECT t0.c0, t1.c1 FROM t0, t1".to_string(),
+        limit: TABLE_ROWS,
         indexes: &[],
         recursive: false,
     }
@@ -214,7 +227,7 @@ pub fn workloads() -> Vec<Workload> {
     let mut found = Vec::new();
     for (name, doors) in graphs {
         let from = doors[0].0;
-        for workload in [closure(), filtered(from), pushed(from)] {
+        for workload in [closure(), filtered(from), pushed(from), within(256, pushed(from))] {
             found.push(workload.over(&name, vec![edges([0, 1], doors.clone())]));
         }
     }
