@@ -9,7 +9,7 @@ use std::ptr::{null, null_mut};
 #[link(name = "libsqlite3.so.0", kind = "dylib", modifiers = "+verbatim")]
 extern "C" {
     fn sqlite3_libversion() -> *const c_char;
-    fn sqlite3_open(file: *const c_char, database: *mut *mut c_void) -> c_int;
+    fn sqlite3_open_v2(file: *const c_char, database: *mut *mut c_void, flags: c_int, vfs: *const c_char) -> c_int;
     fn sqlite3_close(database: *mut c_void) -> c_int;
     fn sqlite3_errmsg(database: *mut c_void) -> *const c_char;
     fn sqlite3_prepare_v2(
@@ -29,6 +29,8 @@ extern "C" {
 const OK: c_int = 0;
 const ROW: c_int = 100;
 const DONE: c_int = 101;
+/// Read, write, create, and no locks, since one thread uses it.
+const FLAGS: c_int = 0x2 | 0x4 | 0x8000;
 
 pub fn version() -> String {
     // SAFETY: the library's version is a text that lasts.
@@ -48,7 +50,7 @@ impl Sqlite {
     pub fn new(workload: &Workload, columns: &[usize], indexed: bool) -> Sqlite {
         let mut database = null_mut();
         // SAFETY: the name ends with 0; the pointer is this function's own.
-        assert_eq!(unsafe { sqlite3_open(c":memory:".as_ptr(), &mut database) }, OK);
+        assert_eq!(unsafe { sqlite3_open_v2(c":memory:".as_ptr(), &mut database, FLAGS, null()) }, OK);
         let answer = vec![0; COLUMNS * ROWS as usize];
         let mut sqlite = Sqlite { database, statement: null_mut(), columns: columns.to_vec(), answer, rows: 0 };
         sqlite.execute("PRAGMA temp_store = MEMORY");
@@ -87,8 +89,7 @@ impl Sqlite {
         let mut statement = null_mut();
         // SAFETY: the database is open and the text ends with 0.
         unsafe {
-            let status =
-                sqlite3_prepare_v2(self.database, text.as_ptr(), -1, &mut statement, null::<*const c_char>() as *mut _);
+            let status = sqlite3_prepare_v2(self.database, text.as_ptr(), -1, &mut statement, null_mut());
             assert_eq!(status, OK, "{sql}: {}", CStr::from_ptr(sqlite3_errmsg(self.database)).to_string_lossy());
         }
         statement
