@@ -1,4 +1,4 @@
-//! Capeshard for Rust: queries, databases, rewriting and running, by the calls of `include/capeshard.h`. Nothing here decides anything: each method
+//! Capeshard for Rust: queries, databases, rewriting, compiling and running, by the calls of `include/capeshard.h`. Nothing here decides anything: each method
 //! lends slices of the right length to one call, whose result and slices are proved to be those of the definitions.
 
 /// The columns that there can be, and so the entries of a stored row.
@@ -15,6 +15,8 @@ const QUERY_ROOM: usize = 1 + LINE_ENTRIES * NODES;
 const TABLE_ENTRIES: usize = 2;
 const DATABASE_ROOM: usize = 1 + TABLE_ENTRIES * TABLES;
 const RUN_ROOM: usize = 3;
+const SLOT_ENTRIES: usize = 7;
+const PLAN_ROOM: usize = 1 + SLOT_ENTRIES * NODES;
 
 /// The calls themselves, over slices of any length and content. What each asks and does stands in `include/capeshard.h`.
 pub mod calls {
@@ -53,6 +55,17 @@ pub mod calls {
             limit: usize,
             kind: u32,
             node: u32,
+        ) -> u64;
+        pub fn capeshard_compile(
+            query: *const u32,
+            query_len: usize,
+            database: *const u32,
+            database_len: usize,
+            store: *const u32,
+            store_len: usize,
+            limit: usize,
+            plan: *mut u32,
+            plan_len: usize,
         ) -> u64;
         pub fn capeshard_run(
             query: *const u32,
@@ -108,6 +121,7 @@ pub enum Line {
 }
 
 const FIX: u32 = 13;
+const START: u32 = 14;
 
 impl Line {
     fn flat(self) -> [u32; LINE_ENTRIES] {
@@ -147,6 +161,112 @@ impl Line {
             code => unreachable!("no line has the code {code}"),
         }
     }
+}
+
+/// A plan line: the register that it writes and what it does. Registers count from 0, one a node, then one more a fix.
+#[derive(Clone, Debug, PartialEq, Eq)]
+pub struct PlanLine {
+    pub to: u32,
+    pub op: Op,
+}
+
+/// What a plan line does. `from` and the operands of a pair are registers.
+#[derive(Clone, Debug, PartialEq, Eq)]
+pub enum Op {
+    Table {
+        table: u32,
+    },
+    Fact {
+        column: u32,
+        value: u32,
+    },
+    Union(Operands),
+    Join(Operands),
+    Except(Operands),
+    Eq {
+        from: u32,
+        column: u32,
+        value: u32,
+    },
+    Ne {
+        from: u32,
+        column: u32,
+        value: u32,
+    },
+    Max {
+        from: u32,
+        column: u32,
+        value: u32,
+    },
+    Same {
+        from: u32,
+        column: u32,
+        other: u32,
+    },
+    Copy {
+        from: u32,
+        column: u32,
+        new: u32,
+    },
+    Drop {
+        from: u32,
+        column: u32,
+    },
+    /// A fix's start: its newest rows' register, the seed's, and how many lines the path has.
+    Start {
+        delta: u32,
+        from: u32,
+        path: u32,
+    },
+    /// A fix's own line: its newest rows' register, the step's, and how many lines the path has.
+    Again {
+        delta: u32,
+        from: u32,
+        path: u32,
+    },
+}
+
+/// The registers of a pair's operands, and their columns.
+#[derive(Clone, Debug, PartialEq, Eq)]
+pub struct Operands {
+    pub left: u32,
+    pub right: u32,
+    pub left_columns: Vec<usize>,
+    pub right_columns: Vec<usize>,
+}
+
+impl PlanLine {
+    fn of(entries: &[u32]) -> PlanLine {
+        let (a, b, c) = (entries[2], entries[3], entries[4]);
+        let operands = || Operands {
+            left: a,
+            right: b,
+            left_columns: columns_of(entries[5]),
+            right_columns: columns_of(entries[6]),
+        };
+        let op = match entries[0] {
+            1 => Op::Table { table: a },
+            3 => Op::Fact { column: a, value: b },
+            4 => Op::Union(operands()),
+            5 => Op::Join(operands()),
+            6 => Op::Except(operands()),
+            7 => Op::Eq { from: a, column: b, value: c },
+            8 => Op::Ne { from: a, column: b, value: c },
+            9 => Op::Max { from: a, column: b, value: c },
+            10 => Op::Same { from: a, column: b, other: c },
+            11 => Op::Copy { from: a, column: b, new: c },
+            12 => Op::Drop { from: a, column: b },
+            FIX => Op::Again { delta: a, from: b, path: c },
+            START => Op::Start { delta: a, from: b, path: c },
+            code => unreachable!("no plan line has the code {code}"),
+        };
+        PlanLine { to: entries[1], op }
+    }
+}
+
+/// The columns whose bits are set.
+fn columns_of(bits: u32) -> Vec<usize> {
+    (0..COLUMNS).filter(|column| bits >> column & 1 == 1).collect()
 }
 
 /// A table: its columns, ascending, and its rows, ascending, with a value a column.
@@ -292,6 +412,26 @@ impl Query {
         })
     }
 
+    /// Compiles the query (as the check): its plan, line for line.
+    pub fn compile(&self, database: &Database) -> Result<Vec<PlanLine>, Refusal> {
+        let mut plan = [0; PLAN_ROOM];
+        // SAFETY: each pointer and length is that of one slice, and the written one is borrowed here alone.
+        reply(unsafe {
+            calls::capeshard_compile(
+                self.flat.as_ptr(),
+                self.flat.len(),
+                database.flat.as_ptr(),
+                database.flat.len(),
+                database.store.as_ptr(),
+                database.store.len(),
+                NODES,
+                plan.as_mut_ptr(),
+                plan.len(),
+            )
+        })?;
+        Ok(plan[1..].chunks(SLOT_ENTRIES).take(plan[0] as usize).map(PlanLine::of).collect())
+    }
+
     /// Runs the query (as the check, then 16, 18, 19): at most so many rows a register, at most so many plan lines.
     pub fn run(&self, database: &Database, rows: usize, budget: u32) -> Result<Answer, Refusal> {
         // A row limit over the highest is refused before any workspace is asked for.
@@ -320,7 +460,7 @@ impl Query {
                 told.len(),
             )
         })?;
-        let columns: Vec<usize> = (0..COLUMNS).filter(|column| told[0] >> column & 1 == 1).collect();
+        let columns = columns_of(told[0]);
         let values = |row: &[u32]| columns.iter().map(|&column| row[column]).collect();
         let rows = answer.chunks(COLUMNS).take(told[1] as usize).map(values).collect();
         Ok(Answer { columns: columns.clone(), rows, ran: told[2] })

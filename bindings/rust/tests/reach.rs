@@ -1,5 +1,5 @@
 //! Document 01's starred cases of Reach, the refusals of each call, and queries by their lines.
-use capeshard::{Database, Line, Query, Refusal, Table};
+use capeshard::{calls, Database, Line, Op, Operands, PlanLine, Query, Refusal, Table};
 
 const BOOK: &[u8] = b"guide=1\ntables=1\ncols=0,1\nrows=2\nrow=1,2\nrow=2,3\n";
 
@@ -80,6 +80,91 @@ fn checks_refuse() {
     assert_eq!(Query::of(&[Line::Join]).unwrap().check(&book()), refused(3, 1));
     assert_eq!(Query::of(&[]).unwrap().check(&book()), refused(2, 0));
     assert_eq!(Query::of(&[Line::Table(0); 129]), None);
+}
+
+#[test]
+fn reach_compiles() {
+    let operands = Operands { left: 3, right: 6, left_columns: vec![0, 2], right_columns: vec![1, 2] };
+    let lines = [
+        (0, Op::Table { table: 0 }),
+        (4, Op::Table { table: 0 }),
+        (5, Op::Copy { from: 4, column: 0, new: 2 }),
+        (6, Op::Drop { from: 5, column: 0 }),
+        (9, Op::Start { delta: 10, from: 0, path: 4 }),
+        (2, Op::Copy { from: 10, column: 1, new: 2 }),
+        (3, Op::Drop { from: 2, column: 1 }),
+        (7, Op::Join(operands)),
+        (8, Op::Drop { from: 7, column: 2 }),
+        (9, Op::Again { delta: 10, from: 8, path: 4 }),
+    ];
+    let plan: Vec<PlanLine> = lines.into_iter().map(|(to, op)| PlanLine { to, op }).collect();
+    assert_eq!(query(&[]).compile(&book()), Ok(plan));
+}
+
+#[test]
+fn every_plan_line_comes_back() {
+    let pairs = [Line::Table(0), Line::Table(0), Line::Union, Line::Fact(0, 5), Line::Except];
+    let filters = [Line::Eq(0, 6), Line::Ne(0, 7), Line::Max(0, 8), Line::Same(0, 1)];
+    let plan = Query::of(&[&pairs[..], &filters].concat()).unwrap().compile(&book()).unwrap();
+    let both = |left, right, other| Operands { left, right, left_columns: vec![0, 1], right_columns: other };
+    let lines = [
+        Op::Table { table: 0 },
+        Op::Table { table: 0 },
+        Op::Union(both(0, 1, vec![0, 1])),
+        Op::Fact { column: 0, value: 5 },
+        Op::Except(both(2, 3, vec![0])),
+        Op::Eq { from: 4, column: 0, value: 6 },
+        Op::Ne { from: 5, column: 0, value: 7 },
+        Op::Max { from: 6, column: 0, value: 8 },
+        Op::Same { from: 7, column: 0, other: 1 },
+    ];
+    assert_eq!(plan, (0..).zip(lines).map(|(to, op)| PlanLine { to, op }).collect::<Vec<_>>());
+}
+
+#[test]
+fn a_refused_query_has_no_plan() {
+    assert_eq!(query(&[Line::Drop(5)]).compile(&book()), refused(9, 11));
+    assert_eq!(query(&[Line::Table(9), Line::Union]).compile(&book()), refused(10, 11));
+    assert_eq!(Query::of(&[Line::Join]).unwrap().compile(&book()), refused(3, 1));
+    assert_eq!(Query::of(&[]).unwrap().compile(&book()), refused(2, 0));
+    let descending = Database::of(&[Table { columns: vec![0], rows: vec![vec![2], vec![1]] }]).unwrap();
+    assert_eq!(query(&[]).compile(&descending), refused(11, 0));
+}
+
+#[test]
+fn a_refused_compile_writes_nothing() {
+    const ROOM: usize = 1 + 7 * 128;
+    let (mut sheet, mut tables) = ([0; 1 + 3 * 128], [0; 1 + 2 * 16]);
+    sheet[..4].copy_from_slice(&[1, 1, 0, 0]);
+    tables[..3].copy_from_slice(&[1, 3, 1]);
+    let store = [1, 2, 0, 0, 0, 0, 0, 0];
+    let compile = |sheet: &[u32], plan: &mut [u32]| {
+        let (query, database) = ((sheet.as_ptr(), sheet.len()), (tables.as_ptr(), tables.len()));
+        // SAFETY: each pointer and length is that of one slice, and the written one is borrowed here alone.
+        unsafe {
+            calls::capeshard_compile(
+                query.0,
+                query.1,
+                database.0,
+                database.1,
+                store.as_ptr(),
+                store.len(),
+                128,
+                plan.as_mut_ptr(),
+                plan.len(),
+            )
+        }
+    };
+    let mut plan = [9; ROOM];
+    assert_eq!(compile(&sheet, &mut plan[1..]), 17 << 32);
+    assert_eq!(compile(&sheet[1..], &mut plan), 17 << 32);
+    sheet[2] = 1;
+    assert_eq!(compile(&sheet, &mut plan), 10 << 32 | 1);
+    assert_eq!(plan, [9; ROOM]);
+    sheet[2] = 0;
+    assert_eq!(compile(&sheet, &mut plan), 0);
+    assert_eq!(plan[..8], [1, 1, 0, 0, 0, 0, 0, 0]);
+    assert_eq!(plan[8..], [9; ROOM - 8]);
 }
 
 #[test]

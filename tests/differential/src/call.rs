@@ -1,7 +1,8 @@
 //! A call of include/capeshard.h, made of the engine and worked out by the reference.
 
 use crate::slices::{
-    bits_of, database_of, flat_database, flat_query, over, query_of, Slices, DATABASE_ROOM, QUERY_ROOM, RUN_ROOM,
+    bits_of, database_of, flat_database, flat_plan, flat_query, over, query_of, Slices, DATABASE_ROOM, PLAN_ROOM,
+    QUERY_ROOM, RUN_ROOM,
 };
 use capeshard::calls;
 use reference::check::check;
@@ -16,6 +17,7 @@ pub enum Call {
     ReadDatabase,
     Check { limit: usize },
     Rewrite { limit: usize, kind: u32, node: u32 },
+    Compile { limit: usize },
     Run { limit: usize, rows: usize, budget: u32 },
 }
 
@@ -35,12 +37,13 @@ impl Call {
             &mut lent.query,
             &mut lent.database,
             &mut lent.store,
+            &mut lent.plan,
             &mut lent.workspace,
             &mut lent.answer,
             &mut lent.told,
         ];
         let mut held = slices.each_ref().map(|slice| guarded(slice));
-        let [query, database, store, workspace, answer, told] = held.each_mut().map(|slice| {
+        let [query, database, store, plan, workspace, answer, told] = held.each_mut().map(|slice| {
             let length = slice.len() - 2 * GUARD;
             (slice[GUARD..].as_mut_ptr(), length)
         });
@@ -58,6 +61,9 @@ impl Call {
                 }
                 Call::Rewrite { limit, kind, node } => calls::capeshard_rewrite(
                     query.0, query.1, database.0, database.1, store.0, store.1, limit, kind, node,
+                ),
+                Call::Compile { limit } => calls::capeshard_compile(
+                    query.0, query.1, database.0, database.1, store.0, store.1, limit, plan.0, plan.1,
                 ),
                 Call::Run { limit, rows, budget } => calls::capeshard_run(
                     query.0,
@@ -96,6 +102,9 @@ impl Call {
             Call::Check { .. } | Call::Rewrite { .. } => {
                 lent.query.len() < QUERY_ROOM || lent.database.len() < DATABASE_ROOM
             }
+            Call::Compile { .. } => {
+                lent.query.len() < QUERY_ROOM || lent.database.len() < DATABASE_ROOM || lent.plan.len() < PLAN_ROOM
+            }
             Call::Run { .. } => {
                 lent.query.len() < QUERY_ROOM || lent.database.len() < DATABASE_ROOM || lent.told.len() < RUN_ROOM
             }
@@ -122,6 +131,12 @@ impl Call {
                 let database = database_of(&lent.database, &lent.store);
                 let rewritten = rewrite(&database, &query_of(&lent.query, limit), kind, node)?;
                 over(&flat_query(rewritten.lines()), &mut lent.query);
+            }
+            Call::Compile { limit } => {
+                let database = database_of(&lent.database, &lent.store);
+                database.form()?;
+                let checked = check(&query_of(&lent.query, limit), database.schema())?;
+                over(&flat_plan(&checked), &mut lent.plan);
             }
             Call::Run { limit, rows, budget } => {
                 let database = database_of(&lent.database, &lent.store);

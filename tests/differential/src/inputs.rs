@@ -1,7 +1,7 @@
 //! The calls of one seed, on inputs of the reference's generators.
 
 use crate::call::Call;
-use crate::slices::{flat_database, flat_query, Slices, DATABASE_ROOM, LINE, QUERY_ROOM, RUN_ROOM, TABLE};
+use crate::slices::{flat_database, flat_query, Slices, DATABASE_ROOM, LINE, PLAN_ROOM, QUERY_ROOM, RUN_ROOM, TABLE};
 use reference::algebra::{Columns, Pairing, Relation};
 use reference::check::check;
 use reference::damage;
@@ -31,6 +31,7 @@ pub fn inputs(random: &mut Random) -> Vec<Input> {
     found.extend(checks(random, &query, &database));
     found.extend(rewrites(random, &query, &database));
     found.extend(runs(random, &query, &database));
+    found.extend(compiles(random, &query, &database));
     found
 }
 
@@ -257,6 +258,22 @@ fn fitting(random: &mut Random, query: &Query, database: &Database) -> Vec<(u32,
         fitting.swap_remove(random.below(fitting.len()));
     }
     fitting
+}
+
+/// Plans of the query as given, with steps and with edits; most slices have the room, some one entry less.
+fn compiles(random: &mut Random, query: &Query, database: &Database) -> Vec<Input> {
+    let mut found = vec![over(random, query, database)];
+    for _ in 0..3 {
+        let query = again(random, query, database);
+        found.push(over(random, &query, database));
+    }
+    found.push(damaged(random, query, database));
+    let compile = |slices: Slices| {
+        let limit = limit(random, slices.query.first().map_or(0, |count| *count as usize));
+        let plan = lent(random, &[], PLAN_ROOM);
+        (Call::Compile { limit }, Slices { plan, ..slices })
+    };
+    found.into_iter().map(compile).collect()
 }
 
 fn runs(random: &mut Random, query: &Query, database: &Database) -> Vec<Input> {

@@ -1,9 +1,10 @@
 //! Compares the engine with the reference, call by call: `differential SEED COUNT` on the inputs of COUNT seeds from SEED
-//! on. A case is one call: the reply and all lent slices afterwards. A difference prints its seed and both sides; the last
-//! line is 'N passed, M failed'.
+//! on. A case is one call: the reply and all lent slices afterwards. A difference prints its seed and both sides. Then the
+//! rows and lines run of each workload of bench/. The last line is 'N passed, M failed'.
 
 mod call;
 mod inputs;
+mod measured;
 mod slices;
 mod tally;
 mod wrapper;
@@ -38,6 +39,7 @@ fn main() -> ExitCode {
         }
         wrapper::cases(&mut Random::new(seed), &mut tally);
     }
+    measured::cases(&mut tally);
     tally.print_met();
     // Fewer inputs may miss a kind or a number.
     if count >= COUNT {

@@ -1,6 +1,8 @@
 //! The slices that a call is lent, and the values that stand in them by the layout of include/capeshard.h.
 
 use reference::algebra::{Columns, Condition, Pairing};
+use reference::check::Checked;
+use reference::plan::{plan, Line, Operation};
 use reference::value::{Database, Node, Query, NODES, TABLES};
 
 pub const LINE: usize = 3;
@@ -8,6 +10,8 @@ pub const QUERY_ROOM: usize = 1 + LINE * NODES;
 pub const TABLE: usize = 2;
 pub const DATABASE_ROOM: usize = 1 + TABLE * TABLES as usize;
 pub const RUN_ROOM: usize = 3;
+pub const SLOT: usize = 7;
+pub const PLAN_ROOM: usize = 1 + SLOT * NODES;
 
 /// Whatever a call takes; what it does not take stays empty.
 #[derive(Clone, Debug, Default, PartialEq, Eq)]
@@ -16,6 +20,7 @@ pub struct Slices {
     pub query: Vec<u32>,
     pub database: Vec<u32>,
     pub store: Vec<u32>,
+    pub plan: Vec<u32>,
     pub workspace: Vec<u32>,
     pub answer: Vec<u32>,
     pub told: Vec<u32>,
@@ -99,6 +104,45 @@ pub fn database_of(flat: &[u32], store: &[u32]) -> Database {
         rows: tables().map(|table| table[1]).collect(),
         store: store.to_vec(),
     }
+}
+
+/// A plan line: a code, the register that it writes, three numbers, and the columns of a pair's operands.
+fn slot_of(line: &Line, checked: &Checked) -> [u32; SLOT] {
+    let source = |index: usize| line.sources[index] as u32;
+    let filter = |code, c: u8, w: u32| [code, source(0), c.into(), w];
+    let pair = |code| [code, source(0), source(1), 0];
+    let of_fix = |code, delta: usize| [code, delta as u32, source(0), line.path as u32];
+    let [code, a, b, c] = match line.operation {
+        Operation::Table(t) => [1, t.into(), 0, 0],
+        Operation::Fact(c, w) => [3, c.into(), w, 0],
+        Operation::Pair(Pairing::Union) => pair(4),
+        Operation::Pair(Pairing::Join) => pair(5),
+        Operation::Pair(Pairing::Except) => pair(6),
+        Operation::Filter(Condition::Eq(c, w)) => filter(7, c, w),
+        Operation::Filter(Condition::Ne(c, w)) => filter(8, c, w),
+        Operation::Filter(Condition::Max(c, w)) => filter(9, c, w),
+        Operation::Filter(Condition::Same(c, d)) => filter(10, c, d.into()),
+        Operation::Copy(a, b) => filter(11, a, b.into()),
+        Operation::Drop(a) => filter(12, a, 0),
+        Operation::Again { delta } => of_fix(13, delta),
+        Operation::Start { delta } => of_fix(14, delta),
+    };
+    let [left, right] = operand_columns(line, checked).map_or([0, 0], |columns| columns.map(bits_of));
+    [code, line.destination as u32, a, b, c, left, right]
+}
+
+/// The columns of a pair's operands.
+pub fn operand_columns<'a>(line: &Line, checked: &'a Checked) -> Option<[&'a Columns; 2]> {
+    let nodes = checked.root.nodes();
+    let term = nodes.iter().find(|term| term.node == line.destination + 1)?;
+    matches!(line.operation, Operation::Pair(_)).then(|| [0, 1].map(|operand| checked.columns(&term.operands[operand])))
+}
+
+pub fn flat_plan(checked: &Checked) -> Vec<u32> {
+    let lines = plan(&checked.root).lines;
+    let mut flat = vec![lines.len() as u32];
+    flat.extend(lines.iter().flat_map(|line| slot_of(line, checked)));
+    flat
 }
 
 /// Entries written from a slice's start on.

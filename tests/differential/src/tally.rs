@@ -14,7 +14,7 @@ pub struct Tally {
     pub passed: u64,
     pub failed: u64,
     /// Accepted calls in the header's order, accepted rewrites by kind, refusals by number.
-    accepted: [u64; 5],
+    accepted: [u64; 6],
     kinds: [u64; 7],
     numbers: [u64; 20],
     /// The most nodes, rows and lines run of a finished run.
@@ -42,7 +42,8 @@ impl Tally {
             Call::ReadDatabase => 1,
             Call::Check { .. } => 2,
             Call::Rewrite { .. } => 3,
-            Call::Run { .. } => 4,
+            Call::Compile { .. } => 4,
+            Call::Run { .. } => 5,
         };
         match reply {
             Err(refusal) => self.numbers[refusal.number as usize] += 1,

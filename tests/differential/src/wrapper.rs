@@ -1,11 +1,12 @@
 //! The same through the safe wrapper of bindings/rust, whose slices always have their room.
 
+use crate::slices::operand_columns;
 use crate::tally::Tally;
-use capeshard::{Answer, Line, Table};
+use capeshard::{Answer, Line, Op, Operands, PlanLine, Table};
 use reference::algebra::{Columns, Condition, Pairing};
-use reference::check::check;
+use reference::check::{check, Checked};
 use reference::damage;
-use reference::plan::plan;
+use reference::plan::{self, plan, Operation};
 use reference::random::{self, Random};
 use reference::rewrite::rewrite;
 use reference::run::{run, workspace_entries};
@@ -32,6 +33,36 @@ fn line_of(node: &Node) -> Line {
 
 fn lines_of(query: &Query) -> Vec<Line> {
     query.lines().iter().map(line_of).collect()
+}
+
+fn plan_line_of(line: &plan::Line, checked: &Checked) -> PlanLine {
+    let source = |index: usize| line.sources[index] as u32;
+    let operands = || {
+        let columns = operand_columns(line, checked).expect("a pair");
+        let [left_columns, right_columns] = columns.map(|columns| columns.iter().map(|c| usize::from(*c)).collect());
+        Operands { left: source(0), right: source(1), left_columns, right_columns }
+    };
+    let path = line.path as u32;
+    let op = match line.operation {
+        Operation::Table(t) => Op::Table { table: t.into() },
+        Operation::Fact(c, value) => Op::Fact { column: c.into(), value },
+        Operation::Pair(Pairing::Union) => Op::Union(operands()),
+        Operation::Pair(Pairing::Join) => Op::Join(operands()),
+        Operation::Pair(Pairing::Except) => Op::Except(operands()),
+        Operation::Filter(Condition::Eq(c, value)) => Op::Eq { from: source(0), column: c.into(), value },
+        Operation::Filter(Condition::Ne(c, value)) => Op::Ne { from: source(0), column: c.into(), value },
+        Operation::Filter(Condition::Max(c, value)) => Op::Max { from: source(0), column: c.into(), value },
+        Operation::Filter(Condition::Same(c, d)) => Op::Same { from: source(0), column: c.into(), other: d.into() },
+        Operation::Copy(a, b) => Op::Copy { from: source(0), column: a.into(), new: b.into() },
+        Operation::Drop(a) => Op::Drop { from: source(0), column: a.into() },
+        Operation::Start { delta } => Op::Start { delta: delta as u32, from: source(0), path },
+        Operation::Again { delta } => Op::Again { delta: delta as u32, from: source(0), path },
+    };
+    PlanLine { to: line.destination as u32, op }
+}
+
+fn plan_of(checked: &Checked) -> Vec<PlanLine> {
+    plan(&checked.root).lines.iter().map(|line| plan_line_of(line, checked)).collect()
 }
 
 fn given(refusal: capeshard::Refusal) -> Refusal {
@@ -112,6 +143,8 @@ pub fn cases(random: &mut Random, tally: &mut Tally) {
         let found = (held.rewrite(&stored, kind, node).map_err(given), held.lines());
         tally.case(|| format!("rewrite {kind},{node} of {}", told(&before, &database)), &expected, &found);
     }
+    let expected = database.form().and_then(|()| check(&query, database.schema())).map(|checked| plan_of(&checked));
+    tally.case(|| format!("compile {}", told(&query, &database)), &expected, &held.compile(&stored).map_err(given));
     let rows = [1 + random.below(12), 24, 40, random.below(5), 4096 + random.below(3)][random.below(5)];
     let budget = if random.once_in(4) { random.below(30) as u32 } else { u32::MAX };
     let expected = expected_run(&database, &query, rows, budget);

@@ -1,0 +1,250 @@
+//! What is measured: a query by its lines, the step that rewrites it, its tables, and the same question in SQL.
+
+use reference::algebra::{Columns, Relation, Row};
+use reference::random::Random;
+use reference::value::{Database, TABLE_ROWS};
+
+pub struct Workload {
+    pub name: String,
+    /// The lines of the sheet, as document 01 writes them.
+    pub lines: String,
+    /// The kind and node that the engine rewrites the query by before it is run.
+    pub step: Option<(u32, u32)>,
+    pub tables: Vec<(Columns, Relation)>,
+    /// Tables are t0, t1, ..., their columns c0 to c7. The result's columns ascend.
+    pub sql: String,
+    /// The row limit of the run.
+    pub limit: u32,
+    /// SQLite's indexes where it has some.
+    pub indexes: &'static [&'static str],
+    pub recursive: bool,
+}
+
+impl Workload {
+    pub fn database(&self) -> Database {
+        Database::stored(&self.tables, 0)
+    }
+
+    /// The workload over other tables.
+    fn over(self, name: &str, tables: Vec<(Columns, Relation)>) -> Workload {
+        Workload { name: format!("{}, {name}", self.name), tables, ..self }
+    }
+}
+
+/// Column 0 to column 1 along the edges: document 01's Reach without its seed.
+const STEP: &str = "var=1 copy=1,2 drop=1 table=0 copy=0,2 drop=0 pair=join drop=2";
+const RIGHT_STEP: &str = "var=2 copy=3,2 drop=3 table=1 copy=0,2 drop=0 pair=join drop=2";
+const SQL_REACH: &str =
+    "WITH RECURSIVE r(c0, c1) AS (SELECT c0, c1 FROM t0 UNION SELECT r.c0, t0.c1 FROM r JOIN t0 ON t0.c0 = r.c1)";
+
+fn closure() -> Workload {
+    Workload {
+        name: "closure".to_string(),
+        lines: format!("table=0 {STEP} fix=1"),
+        step: None,
+        tables: Vec::new(),
+        sql: format!("{SQL_REACH} SELECT c0, c1 FROM r"),
+        limit: TABLE_ROWS,
+        indexes: &["t0(c0, c1)"],
+        recursive: true,
+    }
+}
+
+/// The closure from one place on: the filter outside the recursion.
+fn filtered(from: u32) -> Workload {
+    let outside = closure();
+    Workload {
+        name: "closure, filter outside".to_string(),
+        lines: format!("{} eq=0,{from}", outside.lines),
+        sql: format!("{} WHERE c0 = {from}", outside.sql),
+        ..outside
+    }
+}
+
+/// The same with the filter pushed in by kind 1.
+fn pushed(from: u32) -> Workload {
+    let seed = format!("SELECT c0, c1 FROM t0 WHERE c0 = {from} UNION");
+    Workload {
+        name: "closure, filter pushed in by kind 1".to_string(),
+        step: Some((1, 11)),
+        sql: format!("{} SELECT c0, c1 FROM r", SQL_REACH.replace("SELECT c0, c1 FROM t0 UNION", &seed)),
+        ..filtered(from)
+    }
+}
+
+/// The same with a row limit, and so a workspace, nearer to what it needs.
+fn within(limit: u32, asked: Workload) -> Workload {
+    Workload { name: format!("{}, L = {limit}", asked.name), limit, ..asked }
+}
+
+fn two_closures() -> Workload {
+    Workload {
+        name: "join of two closures".to_string(),
+        lines: format!("table=0 {STEP} fix=1 table=1 {RIGHT_STEP} fix=2 pair=join"),
+        step: None,
+        tables: Vec::new(),
+        sql: format!(
+            "{SQL_REACH}, s(c0, c3) AS (SELECT c0, c3 FROM t1 UNION SELECT s.c0, t1.c3 FROM s JOIN t1 ON t1.c0 = s.c3) \
+             SELECT r.c0, r.c1, s.c3 FROM r JOIN s ON s.c0 = r.c0"
+        ),
+        limit: TABLE_ROWS,
+        indexes: &["t0(c0, c1)", "t1(c0, c3)"],
+        recursive: true,
+    }
+}
+
+fn merged_closures() -> Workload {
+    Workload {
+        name: "join of two closures, merged by kind 6".to_string(),
+        step: Some((6, 21)),
+        sql: "WITH RECURSIVE r(c0, c1, c3) AS (SELECT t0.c0, t0.c1, t1.c3 FROM t0 JOIN t1 ON t1.c0 = t0.c0 \
+              UNION SELECT r.c0, t0.c1, r.c3 FROM r JOIN t0 ON t0.c0 = r.c1 \
+              UNION SELECT r.c0, r.c1, t1.c3 FROM r JOIN t1 ON t1.c0 = r.c3) SELECT c0, c1, c3 FROM r"
+            .to_string(),
+        ..two_closures()
+    }
+}
+
+/// Steps that do not end at a place of table 1.
+fn except_inside() -> Workload {
+    Workload {
+        name: "except inside a recursion".to_string(),
+        lines: format!("table=0 {STEP} table=1 pair=except fix=1"),
+        step: None,
+        tables: Vec::new(),
+        sql: "WITH RECURSIVE r(c0, c1) AS (SELECT c0, c1 FROM t0 UNION SELECT r.c0, t0.c1 FROM r JOIN t0 ON t0.c0 = r.c1 \
+              WHERE NOT EXISTS (SELECT 1 FROM t1 WHERE t1.c1 = t0.c1)) SELECT c0, c1 FROM r"
+            .to_string(),
+        limit: TABLE_ROWS,
+        indexes: &["t0(c0, c1)", "t1(c1)"],
+        recursive: true,
+    }
+}
+
+/// Reach with five further columns that ride along; the step's join has all eight.
+fn wide_closure() -> Workload {
+    Workload {
+        name: "closure of wide rows".to_string(),
+        lines: format!("table=0 {} fix=1", STEP.replace("table=0", "table=1")),
+        step: None,
+        tables: Vec::new(),
+        sql: "WITH RECURSIVE r(c0, c1, c3, c4, c5, c6, c7) AS (SELECT c0, c1, c3, c4, c5, c6, c7 FROM t0 \
+              UNION SELECT r.c0, t1.c1, r.c3, r.c4, r.c5, r.c6, r.c7 FROM r JOIN t1 ON t1.c0 = r.c1) \
+              SELECT c0, c1, c3, c4, c5, c6, c7 FROM r"
+            .to_string(),
+        limit: TABLE_ROWS,
+        indexes: &["t1(c0, c1)"],
+        recursive: true,
+    }
+}
+
+fn wide_join() -> Workload {
+    Workload {
+        name: "join of wide rows".to_string(),
+        lines: "table=0 table=1 pair=join".to_string(),
+        step: None,
+        tables: Vec::new(),
+        sql: "SELECT t0.c0, t0.c1, t0.c2, t0.c3, t0.c4, t1.c5, t1.c6, t1.c7 FROM t0 JOIN t1 ON t1.c4 = t0.c4"
+            .to_string(),
+        limit: TABLE_ROWS,
+        indexes: &["t1(c4, c5, c6, c7)"],
+        recursive: false,
+    }
+}
+
+fn product() -> Workload {
+    Workload {
+        name: "cross product".to_string(),
+        lines: "table=0 table=1 pair=join".to_string(),
+        step: None,
+        tables: Vec::new(),
+        sql: "SELECT t0.c0, t1.c1 FROM t0, t1".to_string(),
+        limit: TABLE_ROWS,
+        indexes: &[],
+        recursive: false,
+    }
+}
+
+type Edges = Vec<(u32, u32)>;
+
+fn edges(columns: [u8; 2], edges: Edges) -> (Columns, Relation) {
+    let row = |(from, to): (u32, u32)| Row::from([(columns[0], from), (columns[1], to)]);
+    (Columns::from(columns), edges.into_iter().map(row).collect())
+}
+
+/// Places 1 to `length` + 1, each with a door to the next.
+fn chain(length: u32) -> Edges {
+    (1..=length).map(|place| (place, place + 1)).collect()
+}
+
+/// So many different doors between so many places.
+fn random_graph(seed: u64, places: usize, doors: usize) -> Edges {
+    let random = &mut Random::new(seed);
+    let mut found = std::collections::BTreeSet::new();
+    while found.len() < doors {
+        let mut place = || 1 + random.below(places) as u32;
+        found.insert((place(), place()));
+    }
+    found.into_iter().collect()
+}
+
+/// A door to the right and one downwards from each place of a grid.
+fn grid(width: u32, height: u32) -> Edges {
+    let place = |x: u32, y: u32| 1 + x + width * y;
+    let right = (0..height).flat_map(|y| (1..width).map(move |x| (place(x - 1, y), place(x, y))));
+    let down = (1..height).flat_map(|y| (0..width).map(move |x| (place(x, y - 1), place(x, y))));
+    right.chain(down).collect()
+}
+
+/// A table of one column.
+fn list(column: u8, values: impl Iterator<Item = u32>) -> (Columns, Relation) {
+    (Columns::from([column]), values.map(|value| Row::from([(column, value)])).collect())
+}
+
+/// A table whose rows are worked out from their numbers.
+fn table(columns: &[u8], rows: u32, value: impl Fn(u32, u8) -> u32) -> (Columns, Relation) {
+    let row = |number| columns.iter().map(|column| (*column, value(number, *column))).collect();
+    (columns.iter().copied().collect(), (0..rows).map(row).collect())
+}
+
+/// Chains of the picture, up to 4,095 rows: their lengths, and the filter outside and pushed in.
+pub fn chains() -> Vec<(u32, [Workload; 2])> {
+    let along = |length: u32, asked: Workload| asked.over("chain", vec![edges([0, 1], chain(length))]);
+    (1..=10)
+        .map(|tenth| 9 * tenth)
+        .map(|length| (length, [filtered(1), pushed(1)].map(|asked| along(length, asked))))
+        .collect()
+}
+
+pub fn workloads() -> Vec<Workload> {
+    let graphs = [
+        ("chain of 90 edges".to_string(), chain(90)),
+        ("random graph of 40 places and 60 edges".to_string(), random_graph(1, 40, 60)),
+        ("random graph of 60 places and 90 edges".to_string(), random_graph(2, 60, 90)),
+        ("random graph of 64 places and 112 edges".to_string(), random_graph(3, 64, 112)),
+        ("grid of 10 by 11".to_string(), grid(10, 11)),
+    ];
+    let mut found = Vec::new();
+    for (name, doors) in graphs {
+        let from = doors[0].0;
+        for workload in [closure(), filtered(from), pushed(from), within(256, pushed(from))] {
+            found.push(workload.over(&name, vec![edges([0, 1], doors.clone())]));
+        }
+    }
+    for workload in [two_closures(), merged_closures()] {
+        found.push(workload.over("chains of 22 edges", vec![edges([0, 1], chain(22)), edges([0, 3], chain(22))]));
+    }
+    let shut = list(1, (1..=110).filter(|place| place % 13 == 0));
+    found.push(except_inside().over("grid of 10 by 11, 8 places shut", vec![edges([0, 1], grid(10, 11)), shut]));
+    let tours = table(&[0, 1, 3, 4, 5, 6, 7], 60, |tour, column| match column {
+        0 | 1 => tour + 1,
+        _ => (tour + 1) * u32::from(column) % 17,
+    });
+    found.push(wide_closure().over("60 rows of 7 columns, chain of 90 edges", vec![tours, edges([0, 1], chain(90))]));
+    // 16 groups of 16 rows on both sides.
+    let grouped = |row: u32, column: u8| if column == 4 { row / 16 } else { row * (1 + u32::from(column)) };
+    let sides = vec![table(&[0, 1, 2, 3, 4], 256, grouped), table(&[4, 5, 6, 7], 256, grouped)];
+    found.push(wide_join().over("256 rows and 256 to 8 columns", sides));
+    found.push(product().over("64 rows and 64", vec![list(0, 1..=64), list(1, 1..=64)]));
+    found
+}
