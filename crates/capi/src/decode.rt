@@ -94,7 +94,7 @@ pub fn decode_query(query: &[u32]) -> Query
 fn column_set(bits: u32) -> Columns
     ensures { λ r. ⌜ r ≡ columnSet columns bits ⌝ }
 {
-    let mut set = relation::no_columns();
+    let mut set = column_sets::no_columns();
     let mut rest = bits;
     for c in 0..COLUMNS {
         set.has[c] = rest % 2 == 1;
@@ -103,14 +103,14 @@ fn column_set(bits: u32) -> Columns
     if rest == 0 {
         return set;
     }
-    relation::no_columns()
+    column_sets::no_columns()
 }
 
 fn decode_columns(database: &[u32]) -> [Columns; TABLES]
     requires { ⌜ databaseRoom ≤ length (now database) ⌝ }
     ensures { λ r. ⌜ r ≡ databaseOf (now (database .entry)) .columns ⌝ }
 {
-    let none = relation::no_columns();
+    let none = column_sets::no_columns();
     let mut sets = [none; TABLES];
     for t in 0..TABLES {
         let set = column_set(database[1 + TABLE_ENTRIES * t]);

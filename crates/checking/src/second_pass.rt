@@ -1,6 +1,8 @@
 // "Second pass, lowest node: 9 or 10."
 use algebra::Condition;
 use algebra::Pairing;
+use column_sets::has_column;
+use column_sets::same_columns;
 use database::Database;
 use database::Refusal;
 use database::Verdict;
@@ -12,8 +14,6 @@ use query::first_pass::first_of;
 use query::nodes::node_at;
 use query::nodes::preceding;
 use relation::Columns;
-use relation::has_column;
-use relation::same_columns;
 ghost use mathlib.Core.Path.{_≡_};
 ghost use mathlib.Core.Bool.{not, _&&_};
 ghost use Prim.Native.Nat.{_<_};

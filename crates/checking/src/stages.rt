@@ -1,6 +1,7 @@
 // Document 01's "Checking": 11 for the database; 2, then 1, 3, 4 to 8, and 9 and 10 for the query; what it tells of each node of a query that it accepts.
 use super::node_columns::column_sets;
 use super::second_pass::second_pass;
+use column_sets::no_columns;
 use database::Database;
 use database::Refusal;
 use database::Verdict;
@@ -15,7 +16,6 @@ use query::forms::check_form;
 use query::free::free_sets;
 use query::free::no_variables;
 use query::shape::shape;
-use relation::no_columns;
 ghost use mathlib.Core.Path.{_≡_};
 ghost use Prim.Native.Nat.{_≤_, min};
 ghost use Rattle.algebra.specs.Columns.{Schema};

@@ -22,10 +22,10 @@ pub fn table_columns(database: Database, t: usize) -> Columns
 {
     let tables = database.tables;
     if tables <= t {
-        return relation::no_columns();
+        return column_sets::no_columns();
     }
     if TABLES <= t {
-        return relation::no_columns();
+        return column_sets::no_columns();
     }
     let cols = database.columns[t];
     cols
@@ -55,15 +55,15 @@ fn row_ok(cols: Columns, start: usize, store: &[u32], i: usize) -> bool
     requires { ⌜ start + columns * i + columns ≤ length (now store) ⌝ }
     ensures { λ r. ⌜ r ≡ rowOk columns (colsOf columns cols) (now (store .entry)) start i ⌝ }
 {
-    let row = relation::row_at(store, start + COLUMNS * i);
-    if !relation::absent_zero(cols, row) {
+    let row = row_ops::row_at(store, start + COLUMNS * i);
+    if !row_ops::absent_zero(cols, row) {
         return false;
     }
     if i == 0 {
         return true;
     }
-    let previous = relation::row_at(store, start + COLUMNS * (i - 1));
-    relation::less(previous, row)
+    let previous = row_ops::row_at(store, start + COLUMNS * (i - 1));
+    row_ops::less(previous, row)
 }
 
 // Whether n rows from start on have their absent slots 0 and strictly ascend.
@@ -85,7 +85,7 @@ fn table_ok(database: Database, t: usize, start: usize, store: &[u32]) -> bool
     ensures { λ r. ⌜ r ≡ tableOk columns database (now (store .entry)) t ⌝ }
 {
     let cols = table_columns(database, t);
-    if !relation::any_column(cols) {
+    if !column_sets::any_column(cols) {
         return false;
     }
     let n = row_count(database, t);

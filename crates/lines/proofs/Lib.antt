@@ -1,4 +1,3 @@
 pub mod Turns
 pub mod RowChanges
 pub mod StoredRows
-pub mod RowPairs

@@ -1,13 +1,9 @@
 // The plan lines that work row by row: each gives its destination register the rows that its definition says.
 pub mod changes; // changes.rt: filter, copy, drop
-pub mod excepts; // excepts.rt: except
-pub mod joins; // joins.rt: join
 pub mod rows; // rows.rt: a fact, a table
 
 use algebra::Condition;
 pub use changes::change_line;
-pub use excepts::except_line;
-pub use joins::join_line;
 pub use rows::fact_line;
 pub use rows::table_line;
 

@@ -1,6 +1,6 @@
 // The sheet that a rule writes, and the step of a checked query: 12 to 15 in order.
-use super::conditions::judged;
 use super::find::find;
+use conditions::judged;
 use database::Refusal;
 use database::Verdict;
 use matching::Found;

@@ -3,13 +3,13 @@ use super::printing::print;
 use super::printing::print_number;
 use algebra::Condition;
 use algebra::Pairing;
+use column_sets::has_column;
 use plan::LINES;
 use plan::Op;
 use plan::Plan;
 use plan::Slot;
 use relation::COLUMNS;
 use relation::Columns;
-use relation::has_column;
 
 // A column that is there, behind a comma unless it is the first; whether one is still to come first.
 fn print_column(columns: Columns, c: usize, first: bool) -> bool {
