@@ -1,13 +1,10 @@
 // The database: document 01's stored book, and the refusals that every layer gives.
 mod form;
-mod refusals;
 
 pub use form::check_database;
 pub use form::row_count;
 pub use form::table_columns;
 pub use form::table_start;
-pub use refusals::refusal_number;
-pub use refusals::refusal_place;
 use relation::Columns;
 
 // "tables and variables 0–15"

@@ -1,6 +1,3 @@
-pub mod NumberLists
-pub mod RowLists
-pub mod LineReplies
 pub mod Stores
 pub mod Walks
 pub mod RowWalks

@@ -20,7 +20,7 @@ use Rattle.text.specs.Cursors.{restAt, Placed, dueLine}
 use Rattle.text.proofs.Tables.{rows-again}
 use Rattle.text.proofs.ReaderLawsDue.{dueReply, due-reply, due-placed}
 use Rattle.text.proofs.ReaderLawsMany.{behindParts, behind-more}
-use Rattle.loading.specs.RowReading.{aboveOf}
+use Rattle.row_reading.specs.RowReading.{aboveOf}
 use Rattle.loading.specs.Loading.{stores, readEntries, MayStore, Passed, rowEntries}
 use Rattle.loading.proofs.Walks.{Laid, Walk, walk-none, walk-part, walk-more, walk-stops, walk-kept, walk-length, walk-all, walk-stored}
 

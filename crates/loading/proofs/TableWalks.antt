@@ -38,7 +38,7 @@ use Rattle.loading.specs.declared.table_reader.Walked.{Walked}
 use Rattle.loading.specs.declared.table_reader.Walked.the-variants.{Next, Bad}
 use Rattle.loading.specs.declared.table_reader.ReadTable.{ReadTable}
 use Rattle.loading.specs.Loading.{stores, readEntries, MayStore, Passed, Walks, rowEntries, tableStored, tablesStored, colsSet, withTable, GoodTable, GoodTables}
-use Rattle.loading.proofs.RowLists.{columns-few}
+use Rattle.row_reading.proofs.RowLists.{columns-few}
 use Rattle.loading.proofs.Stores.{may-first, stores-then}
 use Rattle.loading.proofs.Walks.{Laid, Walk, walk-none, walk-part, walk-more, walk-stops, walk-kept, walk-length, walk-all, walk-stored}
 

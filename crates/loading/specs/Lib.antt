@@ -1,3 +1,1 @@
-pub mod NumberArrays
-pub mod RowReading
 pub mod Loading

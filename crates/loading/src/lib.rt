@@ -1,7 +1,5 @@
 // Reading a database from its text.
 mod database_reader;
-mod list_reader;
-mod row_reader;
 mod table_reader;
 
 pub use database_reader::read_database;

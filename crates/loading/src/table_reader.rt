@@ -1,9 +1,9 @@
 // Reading a book's tables: "for each table `cols=` …, `rows=R` (0–4,096), and R lines `row=`". The same walk looks at the forms and, with
 // `write`, stores the rows from a place of the store on.
-use crate::list_reader::Numbers;
-use crate::list_reader::number_at;
-use crate::row_reader::due_cols;
-use crate::row_reader::due_row;
+use row_reading::list_reader::Numbers;
+use row_reading::list_reader::number_at;
+use row_reading::row_reader::due_cols;
+use row_reading::row_reader::due_row;
 use column_sets::no_columns;
 use database::Database;
 use database::TABLE_ROWS;
@@ -28,7 +28,7 @@ ghost use Rattle.database.specs.Stored.{rowsLimit, tableLimit};
 ghost use Rattle.text.specs.Lines.{many};
 ghost use Rattle.text.specs.Texts.{readRows, readTable, databaseValue};
 ghost use Rattle.text.specs.Cursors.{restAt, Placed};
-ghost use Rattle.loading.specs.NumberArrays.{listed};
+ghost use Rattle.row_reading.specs.NumberArrays.{listed};
 ghost use Rattle.loading.specs.Loading.{stores, readEntries, MayStore, Walks, rowEntries, tableStored, colsSet, GoodTable, tablesStored, GoodTables, withTable};
 
 // Where a walk ends: behind what was read, or at the first bad line.

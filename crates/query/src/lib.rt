@@ -7,10 +7,7 @@ use relation::Columns;
 pub mod forms; // forms.rt: the form of a query as a value (2, 1)
 pub mod nodes; // nodes.rt: the line at an index and its operands
 pub mod shape; // shape.rt: where nodes start (3)
-pub mod free; // free.rt: the free variables of each node
-pub mod first_pass; // first_pass.rt: 4 to 8
 
-pub use free::none_in;
 pub use nodes::preceding;
 
 // "node count … 1–128"

@@ -11,7 +11,7 @@ use Rattle.laws.proofs.Indexed.{Written, written-none, written-more, written-al
 use Rattle.algebra.specs.Columns.{noCols}
 use Rattle.relation.specs.declared.Columns.{Columns}
 use Rattle.relation.specs.Rows.{columns}
-use Rattle.loading.specs.NumberArrays.{listed}
+use Rattle.row_reading.specs.NumberArrays.{listed}
 use Rattle.loading.proofs.table_reader.columns_of.Statement.{statement}
 use Rattle.loading.proofs.table_reader.columns_of.Tie as tie
 

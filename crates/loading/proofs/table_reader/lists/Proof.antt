@@ -7,9 +7,9 @@ use mathlib.Core.List.{_∷_}
 use lib.ListN.{length, drop}
 use Rattle.laws.specs.Lists.{member}
 use Rattle.relation.specs.Rows.{columns}
-use Rattle.loading.specs.declared.list_reader.Numbers.{Numbers}
-use Rattle.loading.specs.NumberArrays.{listed}
-use Rattle.loading.proofs.RowLists.{listed-next, listed-end, member-here, member-later, member-none}
+use Rattle.row_reading.specs.declared.list_reader.Numbers.{Numbers}
+use Rattle.row_reading.specs.NumberArrays.{listed}
+use Rattle.row_reading.proofs.RowLists.{listed-next, listed-end, member-here, member-later, member-none}
 use Rattle.loading.proofs.table_reader.lists.Statement.{statement}
 use Rattle.loading.proofs.table_reader.lists.Tie as tie
 

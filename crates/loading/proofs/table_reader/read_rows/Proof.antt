@@ -12,11 +12,11 @@ use Rattle.relation.specs.Rows.{columns}
 use Rattle.text.specs.declared.line_reader.Cursor.{Cursor}
 use Rattle.text.specs.Lines.{rowLine}
 use Rattle.text.specs.Cursors.{dueLine}
-use Rattle.loading.specs.declared.row_reader.DueRow.{DueRow}
-use Rattle.loading.specs.NumberArrays.{listed}
-use Rattle.loading.specs.RowReading.{aboveOf}
+use Rattle.row_reading.specs.declared.row_reader.DueRow.{DueRow}
+use Rattle.row_reading.specs.NumberArrays.{listed}
+use Rattle.row_reading.specs.RowReading.{aboveOf}
 use Rattle.loading.specs.Loading.{MayStore, rowEntries}
-use Rattle.loading.proofs.LineReplies.{due-row-bad, due-row-next}
+use Rattle.row_reading.proofs.LineReplies.{due-row-bad, due-row-next}
 use Rattle.loading.proofs.RowWalks.{rowsRead, RowTurn, row-none, row-length, row-room, row-more, row-stops, row-kept, rows-passed, rows-stored}
 use Rattle.loading.proofs.table_reader.read_rows.Statement.{statement}
 use Rattle.loading.proofs.table_reader.read_rows.Tie as tie

@@ -14,10 +14,10 @@ use Rattle.text.specs.Numbers.{bytes}
 use Rattle.text.specs.Lines.{colsLine}
 use Rattle.text.specs.Cursors.{Placed, dueLine, countForm, countReply}
 use Rattle.text.proofs.ReaderLawsDue.{due-placed, due-number, count-bad, count-next}
-use Rattle.loading.specs.declared.row_reader.DueCols.{DueCols}
-use Rattle.loading.specs.NumberArrays.{listed}
+use Rattle.row_reading.specs.declared.row_reader.DueCols.{DueCols}
+use Rattle.row_reading.specs.NumberArrays.{listed}
 use Rattle.loading.specs.Loading.{Walks, tableStored, GoodTable}
-use Rattle.loading.proofs.LineReplies.{due-cols-bad, due-cols-next}
+use Rattle.row_reading.proofs.LineReplies.{due-cols-bad, due-cols-next}
 use Rattle.loading.proofs.Stores.{stores-off}
 use Rattle.loading.proofs.TableWalks.{cols-bound, count-bound, tableRead, table-off, table-uncounted, rows-may, table-stored, table-walks}
 use Rattle.loading.proofs.table_reader.read_table.Statement.{statement}

@@ -1,0 +1,3 @@
+pub mod NumberLists
+pub mod RowLists
+pub mod LineReplies

@@ -1,0 +1,2 @@
+pub mod NumberArrays
+pub mod RowReading
