@@ -1,7 +1,3 @@
-pub mod Ascends
-pub mod Outcomes
-pub mod Runs
-pub mod RunLines
 pub mod Zeros
 pub mod Answers
 pub mod Began

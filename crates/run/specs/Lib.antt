@@ -1,3 +1,3 @@
-pub mod Running
+pub mod Begins
 pub mod Answered
 pub mod FixCount

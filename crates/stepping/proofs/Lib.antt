@@ -1,0 +1,4 @@
+pub mod Ascends
+pub mod Outcomes
+pub mod Runs
+pub mod RunLines
