@@ -62,6 +62,26 @@ def every_definition_file_says_what_it_states():
     ]
 
 
+def contracts_and_definitions_cite_no_proof():
+    """What is believed stands in specs: neither a contract nor a definition imports from a file of proofs."""
+    bad = []
+    for crate in CRATES:
+        for kind, pattern in (("src", "*.rt"), ("specs", "*.antt")):
+            for path in sorted((TOP / "crates" / crate / kind).rglob(pattern)):
+                for found in re.findall(r"^(?:ghost )?use Rattle·\w+(?:·proofs)?\.proofs\.\S+", path.read_text(), re.M):
+                    bad.append(f"{path.relative_to(TOP)}: {found}")
+    return bad
+
+
+def the_pages_name_files_that_are_there():
+    bad = []
+    for page in [TOP / "README.md", *sorted((TOP / "docs").glob("*.md"))]:
+        for name in re.findall(r"(?<![\w/.])(?:crates/)?(\w+/(?:src|specs|proofs)/[\w/+]+\.(?:rt|antt))", page.read_text()):
+            if not (TOP / "crates" / name).is_file():
+                bad.append(f"{page.relative_to(TOP)} names {name}, which isn't there")
+    return bad
+
+
 def no_public_function_without_a_contract():
     bad = []
     for crate in CRATES:
@@ -156,6 +176,8 @@ def shows(part, text):
 
 TESTS = [
     the_pages_show_the_cases,
+    the_pages_name_files_that_are_there,
+    contracts_and_definitions_cite_no_proof,
     every_crate_is_in_the_readme,
     the_width_stands_once,
     no_axioms_and_no_holes,
