@@ -19,7 +19,7 @@ pub struct Numbers {
     pub values: [u32; COLUMNS],
 }
 
-pub(crate) fn no_numbers() -> Numbers
+pub fn no_numbers() -> Numbers
     ensures { λ r. ⌜ r ≡ numbersOf [] ⌝ }
 {
     Numbers {
@@ -46,7 +46,7 @@ fn wide(n: u32) -> usize
 }
 
 // The number at an index.
-pub(crate) fn number_at(numbers: Numbers, k: usize) -> usize
+pub fn number_at(numbers: Numbers, k: usize) -> usize
     requires { ⌜ k < columns ⌝ }
     ensures { λ r. ⌜ r ≡ getD (numbers .values) k 0 ⌝ }
 {
@@ -75,7 +75,7 @@ fn read_numbers(line: &[u8], from: usize) -> Numbers
 }
 
 // The numbers behind a key.
-pub(crate) fn read_list(line: &[u8], key: &[u8]) -> Numbers
+pub fn read_list(line: &[u8], key: &[u8]) -> Numbers
     ensures { λ r. ⌜ r ≡ numbersOf (orEmpty (few columns (numbersBehind (now (key .entry)) (now (line .entry))))) ⌝ }
 {
     if starts(line, key) {

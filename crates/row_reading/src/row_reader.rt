@@ -83,7 +83,7 @@ fn no_cols() -> DueCols
 }
 
 // A due `cols=` line.
-pub(crate) fn due_cols(text: &[u8], c: Cursor) -> DueCols
+pub fn due_cols(text: &[u8], c: Cursor) -> DueCols
     requires { ⌜ Placed c ⌝ }
     ensures { λ r. ⌜ r ≡ colsDue (dueLine (colsLine columns) (now (text .entry)) c) ⌝ }
 {
@@ -179,7 +179,7 @@ fn no_due_row() -> DueRow
 }
 
 // A due `row=` line.
-pub(crate) fn due_row(text: &[u8], c: Cursor, cols: Numbers, first: bool, above: Row) -> DueRow
+pub fn due_row(text: &[u8], c: Cursor, cols: Numbers, first: bool, above: Row) -> DueRow
     requires { ⌜ Placed c × (cols .count ≤ columns) ⌝ }
     ensures { λ r. ⌜ r ≡ rowDue (dueLine (rowLine columns (listed cols) (aboveOf first above)) (now (text .entry)) c) ⌝ }
 {
