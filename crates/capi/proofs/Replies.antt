@@ -6,7 +6,7 @@ use Rattle.database.specs.declared.Refusal.{Refusal}
 use Rattle.database.specs.declared.Verdict.{Verdict}
 use Rattle.database.specs.declared.Verdict.the-variants.{Accepted, Refused}
 use Rattle.database.specs.Refusals.{Reply, refused, accepted, verdict}
-use Rattle.capi.specs.Flat.{over, status}
+use Rattle.flat.specs.Flat.{over, status}
 use Rattle.capi.specs.Calls.{after}
 
 module _ {A : Type 0} (f : A → List ℕ) (s : List ℕ) where

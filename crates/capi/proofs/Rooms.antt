@@ -8,7 +8,7 @@ use Rattle.database.specs.declared.Database.{Database}
 use Rattle.database.specs.declared.Refusal.the-variants.{ShortSlice}
 use Rattle.database.specs.Refusals.{Reply, refused, accepted, require, _>>=_}
 use Rattle.query.specs.declared.Query.{Query}
-use Rattle.capi.specs.Flat.{queryRoom, queryOf, databaseRoom, databaseOf}
+use Rattle.flat.specs.Flat.{queryRoom, queryOf, databaseRoom, databaseOf}
 use Rattle.capi.specs.Calls.{roomFor, withFlat}
 
 module _ {A : Type 0} (n : ℕ) (s : List ℕ) (r : Reply A) where

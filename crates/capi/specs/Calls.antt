@@ -17,7 +17,7 @@ use Rattle.rewrite.specs.Rewrite.{rewrite}
 use Rattle.machine.specs.Run.{Answer, begin, runQuery}
 use Rattle.text.specs.Texts.{Table, readNodes, databaseValue}
 use Rattle.text.specs.Replies.{loadTables}
-use Rattle.capi.specs.Flat.{queryRoom, queryOf, flatNodes, over, databaseRoom, databaseOf, flatDatabase, runRoom, planRoom}
+use Rattle.flat.specs.Flat.{queryRoom, queryOf, flatNodes, over, databaseRoom, databaseOf, flatDatabase, runRoom, planRoom}
 
 -- "lent slice short": a slice with less than the layout's room, before anything else is tested
 abbrev pub roomFor : ℕ → List ℕ → Reply (Unit {0})

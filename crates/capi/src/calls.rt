@@ -1,18 +1,18 @@
 // The calls: each decodes its flat slices, calls the engine once, and encodes what that replies.
-use super::DATABASE_ROOM;
-use super::PLAN_ROOM;
-use super::QUERY_ROOM;
-use super::RUN_ROOM;
-use super::decode::decode_database;
-use super::decode::decode_query;
-use super::encode::encode_database;
-use super::encode::encode_query;
-use super::encode::encode_run;
-use super::encode::outcome_status;
-use super::encode::status;
-use super::plans::encode_plan;
 use database::Refusal;
 use database::Verdict;
+use flat::DATABASE_ROOM;
+use flat::PLAN_ROOM;
+use flat::QUERY_ROOM;
+use flat::RUN_ROOM;
+use flat::decode_database;
+use flat::decode_query;
+use flat::encode_database;
+use flat::encode_plan;
+use flat::encode_query;
+use flat::encode_run;
+use flat::outcome_status;
+use flat::status;
 use machine::Outcome;
 ghost use mathlib.Core.Path.{_≡_};
 ghost use Prim.Native.Nat.{min};
@@ -20,7 +20,7 @@ ghost use Rattle.database.specs.Refusals.{verdict};
 ghost use Rattle.query.specs.Lines.{nodeLimit};
 ghost use Rattle.text.specs.Replies.{storeAfter};
 ghost use Rattle.machine.specs.Run.{workspaceAfter, answerAfter};
-ghost use Rattle.capi.specs.Flat.{status, flatNodes, flatQuery, flatRun, flatSlots};
+ghost use Rattle.flat.specs.Flat.{status, flatNodes, flatQuery, flatRun, flatSlots};
 ghost use Rattle.capi.specs.Calls.{after, readFlat, loadFlat, flatTables, checkFlat, rewriteFlat, beginFlat, runFlat, compileFlat};
 
 // Reads a sheet's text into a flat query.

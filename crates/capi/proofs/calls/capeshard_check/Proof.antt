@@ -9,7 +9,7 @@ use Rattle.database.specs.Refusals.{verdict}
 use Rattle.query.specs.declared.CheckedQuery.{CheckedQuery}
 use Rattle.query.specs.Lines.{nodeLimit}
 use Rattle.query.specs.Check.{checkOver}
-use Rattle.capi.specs.Flat.{status}
+use Rattle.flat.specs.Flat.{status}
 use Rattle.capi.proofs.Rooms.{short-query, short-database, both-roomy}
 use Rattle.capi.proofs.calls.capeshard_check.Statement.{statement}
 use Rattle.capi.proofs.calls.capeshard_check.Tie as tie

@@ -16,9 +16,9 @@ use Rattle.plan.specs.declared.Slot.{Slot}
 use Rattle.plan.specs.Plan.{compile, planValue}
 use Rattle.compiling.specs.declared.Compiled.{Compiled}
 use Rattle.compiling.specs.Compiled.{slotsOf}
-use Rattle.capi.specs.Flat.{flatSlots, planSlots, over, planRoom, queryOf, databaseOf}
+use Rattle.flat.specs.Flat.{flatSlots, planSlots, over, planRoom, queryOf, databaseOf}
 use Rattle.capi.specs.Calls.{roomFor}
-use Rattle.capi.proofs.FlatPlans.{compiled-slots}
+use Rattle.flat.proofs.FlatPlans.{compiled-slots}
 use Rattle.capi.proofs.Replies.{says-same, says-refused, says-accepted}
 use Rattle.capi.proofs.Rooms.{short, roomy, short-query, short-database, both-roomy}
 use Rattle.capi.proofs.calls.capeshard_compile.Statement.{statement}

@@ -14,7 +14,7 @@ use Rattle.database.specs.Refusals.{Reply, refused, verdict}
 use Rattle.text.specs.declared.ReadDatabase.{ReadDatabase}
 use Rattle.text.specs.Texts.{Table, databaseValue}
 use Rattle.text.specs.Replies.{readOr, loadTables, storeAfter}
-use Rattle.capi.specs.Flat.{flatDatabase, over, databaseRoom, status}
+use Rattle.flat.specs.Flat.{flatDatabase, over, databaseRoom, status}
 use Rattle.capi.specs.Calls.{flatTables, after}
 use Rattle.capi.proofs.Replies.{Says, says-same, says-refused, says-accepted}
 use Rattle.capi.proofs.Rooms.{short, roomy}

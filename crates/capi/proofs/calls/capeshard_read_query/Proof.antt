@@ -1,23 +1,34 @@
 -- Each way out is the definition's reply.
 use borrow.Author.Needs.{needs}
 use native.Mathlib.Omega.{arith}
-use Prim.Native.Nat.{ℕ, min}
+use Prim.Native.Nat.{ℕ, min, _-_}
 use mathlib.Core.Path.{_≡_, refl, ap, sym, _∙_}
+use mathlib.Core.List.{List, [], _∷_, _++_, map}
 use denote.Ref.{now}
+use lib.ListN.{length, take, replicate}
 use Rattle.relation.specs.Rows.{columns}
 use Rattle.database.specs.declared.Refusal.the-variants.{ShortSlice}
 use Rattle.database.specs.declared.Verdict.the-variants.{Refused}
 use Rattle.database.specs.Refusals.{refused, verdict}
-use Rattle.query.specs.Lines.{nodeLimit}
+use Rattle.query.specs.declared.Line.{Line}
+use Rattle.query.specs.declared.Node.{Node}
+use Rattle.query.specs.Lines.{nodes, nodeLimit, line, blank}
 use Rattle.text.specs.declared.ReadQuery.{ReadQuery}
 use Rattle.text.specs.Texts.{readNodes, queryValue}
 use Rattle.text.specs.Replies.{readOr}
-use Rattle.capi.specs.Flat.{status, flatNodes, flatQuery, over, queryRoom}
-use Rattle.capi.proofs.FlatQueries.{read-nodes}
+use Rattle.flat.specs.Flat.{status, flatNodes, flatQuery, over, queryRoom}
 use Rattle.capi.proofs.Replies.{says-same, says-refused, says-accepted}
 use Rattle.capi.proofs.Rooms.{short, roomy}
 use Rattle.capi.proofs.calls.capeshard_read_query.Statement.{statement}
 use Rattle.capi.proofs.calls.capeshard_read_query.Tie as tie
+
+-- the lines of a query that is read
+lined : (ns : List Node) (r : List Line) → map (λ (l : Line). l .node) (take (length ns) (map line ns ++ r)) ≡ ns
+lined [] r = refl
+lined (n ∷ ns) r = ap (λ (l : List Node). n ∷ l) (lined ns r)
+
+read-nodes : (ns : List Node) → nodes (queryValue ns) ≡ ns
+read-nodes ns = lined ns (replicate (nodeLimit - length ns) blank)
 
 returns : tie.Need-returns
 returns c =

@@ -13,7 +13,7 @@ use Rattle.query.specs.declared.Query.{Query}
 use Rattle.query.specs.Lines.{nodeLimit}
 use Rattle.rewrite.specs.declared.Rewritten.{Rewritten}
 use Rattle.rewrite.specs.Rewrite.{rewrite, handedBack}
-use Rattle.capi.specs.Flat.{flatQuery, over}
+use Rattle.flat.specs.Flat.{flatQuery, over}
 use Rattle.capi.proofs.Replies.{says-same, says-refused, says-accepted}
 use Rattle.capi.proofs.Rooms.{short-query, short-database, both-roomy}
 use Rattle.capi.proofs.calls.capeshard_rewrite.Statement.{statement}

@@ -11,7 +11,7 @@ use Rattle.database.specs.Refusals.{Reply, _>>=_}
 use Rattle.query.specs.declared.Query.{Query}
 use Rattle.query.specs.Lines.{nodeLimit}
 use Rattle.machine.specs.Run.{Answer, begin, runQuery}
-use Rattle.capi.specs.Flat.{runRoom, queryOf, databaseOf}
+use Rattle.flat.specs.Flat.{runRoom, queryOf, databaseOf}
 use Rattle.capi.specs.Calls.{roomFor}
 use Rattle.capi.proofs.RunReplies.{ends-same, ends-short, ends-refused, ends-finished}
 use Rattle.capi.proofs.Rooms.{short, roomy, short-query, short-database, both-roomy}
