@@ -1,5 +1,4 @@
 // The calls: each decodes its flat slices, calls the engine once, and encodes what that replies.
-use database::Refusal;
 use database::Verdict;
 use flat::DATABASE_ROOM;
 use flat::PLAN_ROOM;
@@ -12,6 +11,7 @@ use flat::encode_plan;
 use flat::encode_query;
 use flat::encode_run;
 use flat::outcome_status;
+use flat::short_slice;
 use flat::status;
 use machine::Outcome;
 ghost use mathlib.Core.Path.{_≡_};
@@ -32,7 +32,7 @@ pub extern "C" fn capeshard_read_query(text: &[u8], limit: usize, query: &mut [u
         ⌝ }
 {
     if query.len() < QUERY_ROOM {
-        return status(Verdict::Refused(Refusal::ShortSlice));
+        return short_slice();
     }
     let read = text::read_query(text, limit);
     let verdict = read.verdict;
@@ -57,7 +57,7 @@ pub extern "C" fn capeshard_read_database(
         ⌝ }
 {
     if database.len() < DATABASE_ROOM {
-        return status(Verdict::Refused(Refusal::ShortSlice));
+        return short_slice();
     }
     let read = loading::read_database(text, store);
     let verdict = read.verdict;
@@ -79,10 +79,10 @@ pub extern "C" fn capeshard_check(
     ensures { λ r. ⌜ r ≡ status (verdict (checkFlat (min limit nodeLimit) (now (query .entry)) (now (database .entry)) (now (store .entry)))) ⌝ }
 {
     if query.len() < QUERY_ROOM {
-        return status(Verdict::Refused(Refusal::ShortSlice));
+        return short_slice();
     }
     if database.len() < DATABASE_ROOM {
-        return status(Verdict::Refused(Refusal::ShortSlice));
+        return short_slice();
     }
     let checked = checking::check(decode_query(query), decode_database(database), store, limit);
     let verdict = checked.verdict;
@@ -105,10 +105,10 @@ pub extern "C" fn capeshard_rewrite(
         ⌝ }
 {
     if query.len() < QUERY_ROOM {
-        return status(Verdict::Refused(Refusal::ShortSlice));
+        return short_slice();
     }
     if database.len() < DATABASE_ROOM {
-        return status(Verdict::Refused(Refusal::ShortSlice));
+        return short_slice();
     }
     let given = decode_query(query);
     let next = rewriting::rewrite(given, decode_database(database), store, limit, kind, node);
@@ -141,13 +141,13 @@ pub extern "C" fn capeshard_run(
         ⌝ }
 {
     if query.len() < QUERY_ROOM {
-        return status(Verdict::Refused(Refusal::ShortSlice));
+        return short_slice();
     }
     if database.len() < DATABASE_ROOM {
-        return status(Verdict::Refused(Refusal::ShortSlice));
+        return short_slice();
     }
     if out.len() < RUN_ROOM {
-        return status(Verdict::Refused(Refusal::ShortSlice));
+        return short_slice();
     }
     let ran = run::run(
         decode_query(query),
@@ -187,13 +187,13 @@ pub extern "C" fn capeshard_compile(
         ⌝ }
 {
     if query.len() < QUERY_ROOM {
-        return status(Verdict::Refused(Refusal::ShortSlice));
+        return short_slice();
     }
     if database.len() < DATABASE_ROOM {
-        return status(Verdict::Refused(Refusal::ShortSlice));
+        return short_slice();
     }
     if plan.len() < PLAN_ROOM {
-        return status(Verdict::Refused(Refusal::ShortSlice));
+        return short_slice();
     }
     let compiled = compiling::compile(decode_query(query), decode_database(database), store, limit);
     let verdict = compiled.verdict;

@@ -58,6 +58,13 @@ pub fn status(verdict: Verdict) -> u64
     }
 }
 
+// A slice below its room.
+pub fn short_slice() -> u64
+    ensures { λ r. ⌜ r ≡ status (Verdict.Refused Refusal.ShortSlice) ⌝ }
+{
+    status(Verdict::Refused(Refusal::ShortSlice))
+}
+
 pub fn pair_line(pairing: Pairing) -> FlatLine
     ensures { λ r. ⌜ r ≡ pairLine pairing ⌝ }
 {

@@ -24,6 +24,7 @@ pub use encode::encode_database;
 pub use encode::encode_query;
 pub use encode::encode_run;
 pub use encode::outcome_status;
+pub use encode::short_slice;
 pub use encode::status;
 pub use plans::encode_plan;
 use query::NODES;

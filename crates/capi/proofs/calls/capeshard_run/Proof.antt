@@ -2,19 +2,21 @@
 use borrow.Author.Needs.{needs}
 use native.Mathlib.Omega.{arith}
 use Prim.Native.Nat.{ℕ, min}
-use mathlib.Core.Path.{_≡_, refl, ap, sym, _∙_}
+use mathlib.Core.Path.{_≡_, sym}
 use denote.Ref.{now}
 use Rattle.algebra.specs.Term.{Term}
 use Rattle.relation.specs.Rows.{columns}
 use Rattle.database.specs.declared.Database.{Database}
-use Rattle.database.specs.Refusals.{Reply, _>>=_}
+use Rattle.database.specs.declared.Refusal.the-variants.{ShortSlice}
+use Rattle.database.specs.declared.Verdict.the-variants.{Refused}
+use Rattle.database.specs.Refusals.{Reply, refused, _>>=_}
 use Rattle.query.specs.declared.Query.{Query}
 use Rattle.query.specs.Lines.{nodeLimit}
 use Rattle.machine.specs.Run.{Answer, begin, runQuery}
-use Rattle.flat.specs.Flat.{runRoom, queryOf, databaseOf}
-use Rattle.capi.specs.Calls.{roomFor}
-use Rattle.capi.proofs.RunReplies.{ends-same, ends-short, ends-refused, ends-finished}
-use Rattle.capi.proofs.Rooms.{short, roomy, short-query, short-database, both-roomy}
+use Rattle.flat.specs.Flat.{status, runRoom}
+use Rattle.capi.specs.Calls.{roomFor, withFlat, withRoom}
+use Rattle.capi.proofs.RunReplies.{Ends, ends-same, ends-short, ends-refused, ends-finished}
+use Rattle.capi.proofs.Rooms.{short-query, short-database, short-third, all-roomy}
 use Rattle.capi.proofs.calls.capeshard_run.Statement.{statement}
 use Rattle.capi.proofs.calls.capeshard_run.Tie as tie
 
@@ -27,57 +29,63 @@ module _ (s : tie.Start) where
   abbrev begins : Query → Database → Reply Term
   begins q d = begin columns (min (s .args .limit) nodeLimit) q d (now (s .args .store)) (s .args .rows) (s .args .budget) (now (s .args .workspace))
 
-  abbrev told : {A : Type 0} → (Query → Database → Reply A) → Query → Database → Reply A
-  told f q d = roomFor runRoom (now (s .args .out)) >>= λ _. f q d
+  abbrev roomed : {A : Type 0} → (Query → Database → Reply A) → Query → Database → Reply A
+  roomed f q d = roomFor runRoom (now (s .args .out)) >>= λ _. f q d
+
+  -- a call on a short slice
+  shorts : ((A : Type 0) (f : Query → Database → Reply A) → withFlat (now (s .args .query)) (now (s .args .database)) (roomed f) ≡ refused ShortSlice) → {r : ℕ}
+      → r ≡ status (Refused ShortSlice)
+      → Ends (now (s .args .workspace)) (now (s .args .answer)) (now (s .args .out)) (withFlat (now (s .args .query)) (now (s .args .database)) (roomed runs))
+      (withFlat (now (s .args .query)) (now (s .args .database)) (roomed begins)) r (now (s .args .workspace)) (now (s .args .answer)) (now (s .args .out))
+  shorts e h = ends-short (now (s .args .workspace)) (now (s .args .answer)) (now (s .args .out)) (e Answer runs) (e Term begins) h
+
+-- once it has run
+module _ (k : tie.After-run) where
+  abbrev called : tie.After-decode-database
+  called = k .before .before .before
+
+  abbrev room : tie.Else3
+  room = called .before .before
+
+  abbrev start : tie.Start
+  start = room .before .before .before .before .before .before .before .before .before
+
+  abbrev of : {A : Type 0} → (tie.Start → Query → Database → Reply A) → Reply A
+  of f = f start (called .before .decode-query .result) (called .decode-database .result)
+
+  decoded : {A : Type 0} (f : tie.Start → Query → Database → Reply A)
+      → of f ≡ withRoom (now (start .args .query)) (now (start .args .database)) runRoom (now (start .args .out)) (f start)
+  decoded f =
+      sym (all-roomy (now (start .args .query)) (now (start .args .database)) runRoom (now (start .args .out)) (f start) (room .before .before .if1 .left)
+      (room .before .if2 .left) (room .if3 .left) _ _ (called .before .decode-query .ensures) (called .decode-database .ensures))
 
 returns : tie.Need-returns
 returns c =
     let s = c .before .before .before .before .before .before .before .before in
-    ends-short (now (s .args .workspace)) (now (s .args .answer)) (now (s .args .out))
-    (short-query (now (s .args .query)) (now (s .args .database)) (told s (runs s)) (c .before .if1 .taken))
-    (short-query (now (s .args .query)) (now (s .args .database)) (told s (begins s)) (c .before .if1 .taken))
-    (c .status .ensures)
+    shorts s (λ A f. short-query (now (s .args .query)) (now (s .args .database)) (roomed s f) (c .before .if1 .taken)) (c .short-slice .ensures)
 
 returns-2 : tie.Need-returns-2
 returns-2 c =
     let i = c .before .before in
     let s = i .before .before .before .before .before .before .before in
-    ends-short (now (s .args .workspace)) (now (s .args .answer)) (now (s .args .out))
-    (short-database (now (s .args .query)) (now (s .args .database)) (told s (runs s)) (i .if1 .left) (c .before .if2 .taken))
-    (short-database (now (s .args .query)) (now (s .args .database)) (told s (begins s)) (i .if1 .left) (c .before .if2 .taken))
-    (c .status2 .ensures)
+    shorts s (λ A f. short-database (now (s .args .query)) (now (s .args .database)) (roomed s f) (i .if1 .left) (c .before .if2 .taken)) (c .short-slice2 .ensures)
 
 returns-3 : tie.Need-returns-3
 returns-3 c =
     let j = c .before .before in
-    let i = j .before in
-    let s = i .before .before .before .before .before .before .before in
-    ends-short (now (s .args .workspace)) (now (s .args .answer)) (now (s .args .out))
-    (both-roomy (now (s .args .query)) (now (s .args .database)) (told s (runs s)) (i .if1 .left) (j .if2 .left) (queryOf (now (s .args .query))) (databaseOf (now (s .args .database))) refl refl
-    ∙ short runRoom (now (s .args .out)) (runs s (queryOf (now (s .args .query))) (databaseOf (now (s .args .database)))) (c .before .if3 .taken))
-    (both-roomy (now (s .args .query)) (now (s .args .database)) (told s (begins s)) (i .if1 .left) (j .if2 .left) (queryOf (now (s .args .query))) (databaseOf (now (s .args .database))) refl refl
-    ∙ short runRoom (now (s .args .out)) (begins s (queryOf (now (s .args .query))) (databaseOf (now (s .args .database)))) (c .before .if3 .taken))
-    (c .status3 .ensures)
+    let s = j .before .before .before .before .before .before .before .before in
+    shorts s
+    (λ A f. short-third (now (s .args .query)) (now (s .args .database)) runRoom (now (s .args .out)) f (j .before .if1 .left) (j .if2 .left) (c .before .if3 .taken))
+    (c .short-slice3 .ensures)
 
 returns-4 : tie.Need-returns-4
 returns-4 c =
     let x = c .before .enum-told .given in
     let k = c .before .before .before .before .before .before .before .before in
-    let d = k .before .before .before in
-    let q = d .before in
-    let l = q .before in
-    let j = l .before in
-    let i = j .before in
-    let s = i .before .before .before .before .before .before .before in
-    let qv = q .decode-query .result in
-    let dv = d .decode-database .result in
-    ends-same (now (s .args .workspace)) (now (s .args .answer)) (now (s .args .out))
-    (sym (both-roomy (now (s .args .query)) (now (s .args .database)) (told s (runs s)) (i .if1 .left) (j .if2 .left) qv dv (q .decode-query .ensures) (d .decode-database .ensures)
-    ∙ roomy runRoom (now (s .args .out)) (runs s qv dv) (l .if3 .left)))
-    (sym (both-roomy (now (s .args .query)) (now (s .args .database)) (told s (begins s)) (i .if1 .left) (j .if2 .left) qv dv (q .decode-query .ensures) (d .decode-database .ensures)
-    ∙ roomy runRoom (now (s .args .out)) (begins s qv dv) (l .if3 .left)))
-    (ends-refused (now (s .args .workspace)) (now (s .args .answer)) (now (s .args .out)) (begins s qv dv) (k .run .result) _ _ (k .run .ensures .0 .1)
-    (runs s qv dv) (x .0 .0) _ (k .run .ensures .0 .0) (k .run .ensures .0 .2) (x .1) (c .outcome-status .ensures))
+    let a = start k .args in
+    ends-same (now (a .workspace)) (now (a .answer)) (now (a .out)) (decoded k runs) (decoded k begins)
+    (ends-refused (now (a .workspace)) (now (a .answer)) (now (a .out)) (of k begins) (k .run .result) _ _ (k .run .ensures .0 .1) (of k runs) (x .0 .0) _
+    (k .run .ensures .0 .0) (k .run .ensures .0 .2) (x .1) (c .outcome-status .ensures))
 
 returns-5 : tie.Need-returns-5
 returns-5 c =
@@ -85,21 +93,10 @@ returns-5 c =
     let o = w .before .before .before in
     let g = o .outcome .given in
     let k = o .before .before .before .before .before .before .before in
-    let d = k .before .before .before in
-    let q = d .before in
-    let l = q .before in
-    let j = l .before in
-    let i = j .before in
-    let s = i .before .before .before .before .before .before .before in
-    let qv = q .decode-query .result in
-    let dv = d .decode-database .result in
-    ends-same (now (s .args .workspace)) (now (s .args .answer)) (now (s .args .out))
-    (sym (both-roomy (now (s .args .query)) (now (s .args .database)) (told s (runs s)) (i .if1 .left) (j .if2 .left) qv dv (q .decode-query .ensures) (d .decode-database .ensures)
-    ∙ roomy runRoom (now (s .args .out)) (runs s qv dv) (l .if3 .left)))
-    (sym (both-roomy (now (s .args .query)) (now (s .args .database)) (told s (begins s)) (i .if1 .left) (j .if2 .left) qv dv (q .decode-query .ensures) (d .decode-database .ensures)
-    ∙ roomy runRoom (now (s .args .out)) (begins s qv dv) (l .if3 .left)))
-    (ends-finished (now (s .args .workspace)) (now (s .args .answer)) (now (s .args .out)) (begins s qv dv) (k .run .result) _ _ (k .run .ensures .0 .1)
-    (runs s qv dv) (g .0 .0) (g .0 .1 .0) _ (k .run .ensures .0 .0) (k .run .ensures .0 .2) (g .1) (w .encode-run .ensures))
+    let a = start k .args in
+    ends-same (now (a .workspace)) (now (a .answer)) (now (a .out)) (decoded k runs) (decoded k begins)
+    (ends-finished (now (a .workspace)) (now (a .answer)) (now (a .out)) (of k begins) (k .run .result) _ _ (k .run .ensures .0 .1) (of k runs) (g .0 .0)
+    (g .0 .1 .0) _ (k .run .ensures .0 .0) (k .run .ensures .0 .2) (g .1) (w .encode-run .ensures))
 
 pub capeshard-run-spec : {M : Type 1} → statement M
 capeshard-run-spec =
