@@ -17,7 +17,7 @@ use Rattle.rewrite.specs.Rewrite.{rewrite}
 use Rattle.machine.specs.Run.{Answer, begin, runQuery}
 use Rattle.text.specs.Texts.{Table, readNodes, databaseValue}
 use Rattle.text.specs.Replies.{loadTables}
-use Rattle.flat.specs.Flat.{queryRoom, queryOf, flatNodes, over, databaseRoom, databaseOf, flatDatabase, runRoom, planRoom}
+use Rattle.flat.specs.Flat.{queryRoom, queryOf, flatNodes, over, databaseRoom, databaseOf, haveRoom, flatDatabase, runRoom, planRoom}
 
 -- "lent slice short": a slice with less than the layout's room, before anything else is tested
 abbrev pub roomFor : ℕ → List ℕ → Reply (Unit {0})
@@ -26,8 +26,7 @@ roomFor n s = require (leb n (length s)) ShortSlice
 -- a call on a query and a database in flat slices
 abbrev pub withFlat : {A : Type 0} → List ℕ → List ℕ → (Query → Database → Reply A) → Reply A
 withFlat query database f = do
-  _ ← roomFor queryRoom query
-  _ ← roomFor databaseRoom database
+  _ ← require (haveRoom query database) ShortSlice
   f (queryOf query) (databaseOf database)
 
 -- and one that writes into a slice with room for n entries besides

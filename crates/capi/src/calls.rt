@@ -10,6 +10,7 @@ use flat::encode_database;
 use flat::encode_plan;
 use flat::encode_query;
 use flat::encode_run;
+use flat::have_room;
 use flat::outcome_status;
 use flat::short_slice;
 use flat::status;
@@ -78,10 +79,7 @@ pub extern "C" fn capeshard_check(
 ) -> u64
     ensures { λ r. ⌜ r ≡ status (verdict (checkFlat (min limit nodeLimit) (now (query .entry)) (now (database .entry)) (now (store .entry)))) ⌝ }
 {
-    if query.len() < QUERY_ROOM {
-        return short_slice();
-    }
-    if database.len() < DATABASE_ROOM {
+    if !have_room(query, database) {
         return short_slice();
     }
     let checked = checking::check(decode_query(query), decode_database(database), store, limit);
@@ -104,10 +102,7 @@ pub extern "C" fn capeshard_rewrite(
         × (now (query .exit) ≡ after flatQuery (rewriteFlat (min limit nodeLimit) (now (query .entry)) (now (database .entry)) (now (store .entry)) kind node) (now (query .entry)))
         ⌝ }
 {
-    if query.len() < QUERY_ROOM {
-        return short_slice();
-    }
-    if database.len() < DATABASE_ROOM {
+    if !have_room(query, database) {
         return short_slice();
     }
     let given = decode_query(query);
@@ -140,10 +135,7 @@ pub extern "C" fn capeshard_run(
         × (now (out .exit) ≡ after flatRun (runFlat (min limit nodeLimit) (now (query .entry)) (now (database .entry)) (now (store .entry)) rows budget (now (workspace .entry)) (now (out .entry)) (now (answer .entry))) (now (out .entry)))
         ⌝ }
 {
-    if query.len() < QUERY_ROOM {
-        return short_slice();
-    }
-    if database.len() < DATABASE_ROOM {
+    if !have_room(query, database) {
         return short_slice();
     }
     if out.len() < RUN_ROOM {
@@ -186,10 +178,7 @@ pub extern "C" fn capeshard_compile(
         × (now (plan .exit) ≡ after flatSlots (compileFlat (min limit nodeLimit) (now (query .entry)) (now (database .entry)) (now (store .entry)) (now (plan .entry))) (now (plan .entry)))
         ⌝ }
 {
-    if query.len() < QUERY_ROOM {
-        return short_slice();
-    }
-    if database.len() < DATABASE_ROOM {
+    if !have_room(query, database) {
         return short_slice();
     }
     if plan.len() < PLAN_ROOM {

@@ -1,8 +1,8 @@
 -- The layout of flat slices: queries and databases of document 01 as entries below 2^32, and a refusal as one number.
-use mathlib.Core.Bool.{Bool, true, false}
+use mathlib.Core.Bool.{Bool, true, false, _&&_}
 use mathlib.Core.List.{List, [], _∷_, _++_, flatMap}
 use Prim.Native.Nat.{ℕ, zero, suc, _+_, _*_, _/_, _%_, _^_, min}
-use lib.Dec.{eqb}
+use lib.Dec.{eqb, leb}
 use lib.ListN.{getD, take, drop, length}
 use Rattle.laws.specs.Lists.{if_then_else_, tabulate}
 use Rattle.algebra.specs.declared.Pairing.{Pairing}
@@ -147,6 +147,10 @@ tableNumbers d = tabulate (λ t. t) (min (d .tables) tableLimit)
 
 abbrev pub flatDatabase : Database → List ℕ
 flatDatabase d = length (tableNumbers d) ∷ flatMap (tableOf d) (tableNumbers d)
+
+-- whether the slices of a query and a database have room
+abbrev pub haveRoom : List ℕ → List ℕ → Bool
+haveRoom query database = leb queryRoom (length query) && leb databaseRoom (length database)
 
 -- a finished run: the columns of the answer, its row count, and the lines run
 abbrev pub runRoom : ℕ

@@ -1,6 +1,8 @@
 // From flat slices to values.
+use super::DATABASE_ROOM;
 use super::FlatLine;
 use super::LINE_ENTRIES;
+use super::QUERY_ROOM;
 use super::TABLE_ENTRIES;
 use algebra::Condition;
 use algebra::Pairing;
@@ -19,7 +21,17 @@ ghost use Rattle.laws.specs.Lists.{tabulate};
 ghost use Rattle.relation.specs.Rows.{columns};
 ghost use Rattle.database.specs.Stored.{tableLimit};
 ghost use Rattle.query.specs.Lines.{line, nodeLimit};
-ghost use Rattle.flat.specs.Flat.{nodeOf, lineAt, lineEntries, queryRoom, queryOf, columnSet, tableWidth, databaseRoom, databaseOf};
+ghost use Rattle.flat.specs.Flat.{nodeOf, lineAt, lineEntries, queryRoom, queryOf, columnSet, tableWidth, databaseRoom, databaseOf, haveRoom};
+
+// Whether the slices of a query and a database have room.
+pub fn have_room(query: &[u32], database: &[u32]) -> bool
+    ensures { λ r. ⌜ r ≡ haveRoom (now (query .entry)) (now (database .entry)) ⌝ }
+{
+    if query.len() < QUERY_ROOM {
+        return false;
+    }
+    database.len() >= DATABASE_ROOM
+}
 
 fn wide(x: u32) -> usize
     ensures { λ r. ⌜ r ≡ x ⌝ }

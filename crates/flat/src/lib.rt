@@ -20,6 +20,7 @@ mod plans; // plans.rt: plans in flat slices
 use database::TABLES;
 pub use decode::decode_database;
 pub use decode::decode_query;
+pub use decode::have_room;
 pub use encode::encode_database;
 pub use encode::encode_query;
 pub use encode::encode_run;

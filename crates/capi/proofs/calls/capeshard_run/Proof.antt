@@ -1,9 +1,11 @@
 -- Each way out is the definition's reply.
 use borrow.Author.Needs.{needs}
 use native.Mathlib.Omega.{arith}
-use Prim.Native.Nat.{ℕ, min}
+use Prim.Native.Nat.{ℕ, min, _≤_}
 use mathlib.Core.Path.{_≡_, sym}
+use mathlib.Core.Bool.{true}
 use denote.Ref.{now}
+use lib.ListN.{length}
 use Rattle.algebra.specs.Term.{Term}
 use Rattle.relation.specs.Rows.{columns}
 use Rattle.database.specs.declared.Database.{Database}
@@ -13,10 +15,10 @@ use Rattle.database.specs.Refusals.{Reply, refused, _>>=_}
 use Rattle.query.specs.declared.Query.{Query}
 use Rattle.query.specs.Lines.{nodeLimit}
 use Rattle.machine.specs.Run.{Answer, begin, runQuery}
-use Rattle.flat.specs.Flat.{status, runRoom}
+use Rattle.flat.specs.Flat.{status, queryRoom, databaseRoom, haveRoom, runRoom}
 use Rattle.capi.specs.Calls.{roomFor, withFlat, withRoom}
 use Rattle.capi.proofs.RunReplies.{Ends, ends-same, ends-short, ends-refused, ends-finished}
-use Rattle.capi.proofs.Rooms.{short-query, short-database, short-third, all-roomy}
+use Rattle.capi.proofs.Rooms.{lacks, has, short-either, short-third, all-roomy}
 use Rattle.capi.proofs.calls.capeshard_run.Statement.{statement}
 use Rattle.capi.proofs.calls.capeshard_run.Tie as tie
 
@@ -39,67 +41,72 @@ module _ (s : tie.Start) where
       (withFlat (now (s .args .query)) (now (s .args .database)) (roomed begins)) r (now (s .args .workspace)) (now (s .args .answer)) (now (s .args .out))
   shorts e h = ends-short (now (s .args .workspace)) (now (s .args .answer)) (now (s .args .out)) (e Answer runs) (e Term begins) h
 
+-- with both rooms
+module _ (i : tie.Else1) where
+  abbrev start : tie.Start
+  start = i .before .before .before .before .before .before .before .before
+
+  rooms : (haveRoom (now (start .args .query)) (now (start .args .database)) ≡ true)
+      × (queryRoom ≤ length (now (start .args .query))) × (databaseRoom ≤ length (now (start .args .database)))
+  rooms = has (now (start .args .query)) (now (start .args .database)) _ (i .before .have-room .ensures) (i .if1 .left)
+
 -- once it has run
 module _ (k : tie.After-run) where
   abbrev called : tie.After-decode-database
   called = k .before .before .before
 
-  abbrev room : tie.Else3
+  abbrev room : tie.Else2
   room = called .before .before
 
-  abbrev start : tie.Start
-  start = room .before .before .before .before .before .before .before .before .before
+  abbrev args : tie.Start
+  args = start (room .before)
 
   abbrev of : {A : Type 0} → (tie.Start → Query → Database → Reply A) → Reply A
-  of f = f start (called .before .decode-query .result) (called .decode-database .result)
+  of f = f args (called .before .decode-query .result) (called .decode-database .result)
 
   decoded : {A : Type 0} (f : tie.Start → Query → Database → Reply A)
-      → of f ≡ withRoom (now (start .args .query)) (now (start .args .database)) runRoom (now (start .args .out)) (f start)
+      → of f ≡ withRoom (now (args .args .query)) (now (args .args .database)) runRoom (now (args .args .out)) (f args)
   decoded f =
-      sym (all-roomy (now (start .args .query)) (now (start .args .database)) runRoom (now (start .args .out)) (f start) (room .before .before .if1 .left)
-      (room .before .if2 .left) (room .if3 .left) _ _ (called .before .decode-query .ensures) (called .decode-database .ensures))
+      sym (all-roomy (now (args .args .query)) (now (args .args .database)) runRoom (now (args .args .out)) (f args) (rooms (room .before) .0)
+      (room .if2 .left) _ _ (called .before .decode-query .ensures) (called .decode-database .ensures))
 
 returns : tie.Need-returns
 returns c =
-    let s = c .before .before .before .before .before .before .before .before in
-    shorts s (λ A f. short-query (now (s .args .query)) (now (s .args .database)) (roomed s f) (c .before .if1 .taken)) (c .short-slice .ensures)
+    let h = c .before .before in
+    let s = h .before .before .before .before .before .before .before in
+    shorts s
+    (λ A f. short-either (now (s .args .query)) (now (s .args .database)) (roomed s f)
+    (lacks (now (s .args .query)) (now (s .args .database)) _ (h .have-room .ensures) (c .before .if1 .taken))) (c .short-slice .ensures)
 
 returns-2 : tie.Need-returns-2
 returns-2 c =
     let i = c .before .before in
-    let s = i .before .before .before .before .before .before .before in
-    shorts s (λ A f. short-database (now (s .args .query)) (now (s .args .database)) (roomed s f) (i .if1 .left) (c .before .if2 .taken)) (c .short-slice2 .ensures)
+    let s = start i in
+    shorts s (λ A f. short-third (now (s .args .query)) (now (s .args .database)) runRoom (now (s .args .out)) f (rooms i .0) (c .before .if2 .taken))
+    (c .short-slice2 .ensures)
 
 returns-3 : tie.Need-returns-3
 returns-3 c =
-    let j = c .before .before in
-    let s = j .before .before .before .before .before .before .before .before in
-    shorts s
-    (λ A f. short-third (now (s .args .query)) (now (s .args .database)) runRoom (now (s .args .out)) f (j .before .if1 .left) (j .if2 .left) (c .before .if3 .taken))
-    (c .short-slice3 .ensures)
-
-returns-4 : tie.Need-returns-4
-returns-4 c =
     let x = c .before .enum-told .given in
     let k = c .before .before .before .before .before .before .before .before in
-    let a = start k .args in
+    let a = args k .args in
     ends-same (now (a .workspace)) (now (a .answer)) (now (a .out)) (decoded k runs) (decoded k begins)
     (ends-refused (now (a .workspace)) (now (a .answer)) (now (a .out)) (of k begins) (k .run .result) _ _ (k .run .ensures .0 .1) (of k runs) (x .0 .0) _
     (k .run .ensures .0 .0) (k .run .ensures .0 .2) (x .1) (c .outcome-status .ensures))
 
-returns-5 : tie.Need-returns-5
-returns-5 c =
+returns-4 : tie.Need-returns-4
+returns-4 c =
     let w = c .before .before in
     let o = w .before .before .before in
     let g = o .outcome .given in
     let k = o .before .before .before .before .before .before .before in
-    let a = start k .args in
+    let a = args k .args in
     ends-same (now (a .workspace)) (now (a .answer)) (now (a .out)) (decoded k runs) (decoded k begins)
     (ends-finished (now (a .workspace)) (now (a .answer)) (now (a .out)) (of k begins) (k .run .result) _ _ (k .run .ensures .0 .1) (of k runs) (g .0 .0)
     (g .0 .1 .0) _ (k .run .ensures .0 .0) (k .run .ensures .0 .2) (g .1) (w .encode-run .ensures))
 
 pub capeshard-run-spec : {M : Type 1} → statement M
 capeshard-run-spec =
-    tie.close (tie.spec (λ c κs. search needs) returns (λ c κs. search needs) returns-2 (λ c κs. search needs) returns-3 (λ c κs. search needs)
-    (λ c κs. search needs) (λ c κs. search needs) (λ c. search needs) (λ c. search needs) (λ c κs. search needs) (λ c. search needs)
-    (λ c. search needs) returns-4 (λ c κs. search needs) (λ c. search needs) (λ c. search needs) (λ c. search needs) returns-5)
+    tie.close (tie.spec (λ c κs. search needs) (λ c κs. search needs) returns (λ c κs. search needs) returns-2 (λ c κs. rooms (c .before) .1)
+    (λ c κs. rooms (c .before .before) .2) (λ c κs. search needs) (λ c. search needs) (λ c. search needs) (λ c κs. search needs) (λ c. search needs)
+    (λ c. search needs) returns-3 (λ c κs. search needs) (λ c. search needs) (λ c. search needs) (λ c. search needs) returns-4)
