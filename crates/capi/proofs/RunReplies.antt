@@ -13,7 +13,7 @@ use Rattle.database.specs.Refusals.{Reply, refused, accepted, verdict}
 use Rattle.machine.specs.declared.Outcome.the-variants.{Finished, Refused}
 use Rattle.machine.specs.declared.Ran.{Ran}
 use Rattle.machine.specs.Run.{Answer, ranOf, workspaceAfter, answerAfter}
-use Rattle.capi.specs.Flat.{over, status, entry, bitsOf, flatRun, outcomeStatus}
+use Rattle.flat.specs.Flat.{over, status, entry, bitsOf, flatRun, outcomeStatus}
 use Rattle.capi.specs.Calls.{after}
 
 module _ (ws answer out : List ℕ) where

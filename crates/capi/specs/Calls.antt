@@ -17,7 +17,7 @@ use Rattle.rewrite.specs.Rewrite.{rewrite}
 use Rattle.machine.specs.Run.{Answer, begin, runQuery}
 use Rattle.text.specs.Texts.{Table, readNodes, databaseValue}
 use Rattle.text.specs.Replies.{loadTables}
-use Rattle.capi.specs.Flat.{queryRoom, queryOf, flatNodes, over, databaseRoom, databaseOf, flatDatabase, runRoom, planRoom}
+use Rattle.flat.specs.Flat.{queryRoom, queryOf, flatNodes, over, databaseRoom, databaseOf, haveRoom, flatDatabase, runRoom, planRoom}
 
 -- "lent slice short": a slice with less than the layout's room, before anything else is tested
 abbrev pub roomFor : ℕ → List ℕ → Reply (Unit {0})
@@ -26,9 +26,12 @@ roomFor n s = require (leb n (length s)) ShortSlice
 -- a call on a query and a database in flat slices
 abbrev pub withFlat : {A : Type 0} → List ℕ → List ℕ → (Query → Database → Reply A) → Reply A
 withFlat query database f = do
-  _ ← roomFor queryRoom query
-  _ ← roomFor databaseRoom database
+  _ ← require (haveRoom query database) ShortSlice
   f (queryOf query) (databaseOf database)
+
+-- and one that writes into a slice with room for n entries besides
+abbrev pub withRoom : {A : Type 0} → List ℕ → List ℕ → ℕ → List ℕ → (Query → Database → Reply A) → Reply A
+withRoom query database n out f = withFlat query database (λ q d. roomFor n out >>= λ _. f q d)
 
 -- what an accepted call writes; "Refusals … change no" slice
 abbrev pub after : {A : Type 0} → (A → List ℕ) → Reply A → List ℕ → List ℕ
@@ -62,11 +65,11 @@ rewriteFlat limit query database store kind node = withFlat query database (λ q
 module _ (limit : ℕ) (query database store : List ℕ) (rows budget : ℕ) (workspace out : List ℕ) where
   -- the term that is run once it begins
   abbrev pub beginFlat : Reply Term
-  beginFlat = withFlat query database (λ q d. roomFor runRoom out >>= λ _. begin columns limit q d store rows budget workspace)
+  beginFlat = withRoom query database runRoom out (λ q d. begin columns limit q d store rows budget workspace)
 
   abbrev pub runFlat : List ℕ → Reply Answer
-  runFlat answer = withFlat query database (λ q d. roomFor runRoom out >>= λ _. runQuery columns limit q d store rows budget workspace answer)
+  runFlat answer = withRoom query database runRoom out (λ q d. runQuery columns limit q d store rows budget workspace answer)
 
 -- the plan of a checked query
 abbrev pub compileFlat : ℕ → List ℕ → List ℕ → List ℕ → List ℕ → Reply (List Slot)
-compileFlat limit query database store plan = withFlat query database (λ q d. roomFor planRoom plan >>= λ _. compile columns limit q d store)
+compileFlat limit query database store plan = withRoom query database planRoom plan (λ q d. compile columns limit q d store)

@@ -1,18 +1,19 @@
 // The calls: each decodes its flat slices, calls the engine once, and encodes what that replies.
-use super::DATABASE_ROOM;
-use super::PLAN_ROOM;
-use super::QUERY_ROOM;
-use super::RUN_ROOM;
-use super::decode::decode_database;
-use super::decode::decode_query;
-use super::encode::encode_database;
-use super::encode::encode_query;
-use super::encode::encode_run;
-use super::encode::outcome_status;
-use super::encode::status;
-use super::plans::encode_plan;
-use database::Refusal;
 use database::Verdict;
+use flat::DATABASE_ROOM;
+use flat::PLAN_ROOM;
+use flat::QUERY_ROOM;
+use flat::RUN_ROOM;
+use flat::decode_database;
+use flat::decode_query;
+use flat::encode_database;
+use flat::encode_plan;
+use flat::encode_query;
+use flat::encode_run;
+use flat::have_room;
+use flat::outcome_status;
+use flat::short_slice;
+use flat::status;
 use machine::Outcome;
 ghost use mathlib.Core.Path.{_≡_};
 ghost use Prim.Native.Nat.{min};
@@ -20,7 +21,7 @@ ghost use Rattle.database.specs.Refusals.{verdict};
 ghost use Rattle.query.specs.Lines.{nodeLimit};
 ghost use Rattle.text.specs.Replies.{storeAfter};
 ghost use Rattle.machine.specs.Run.{workspaceAfter, answerAfter};
-ghost use Rattle.capi.specs.Flat.{status, flatNodes, flatQuery, flatRun, flatSlots};
+ghost use Rattle.flat.specs.Flat.{status, flatNodes, flatQuery, flatRun, flatSlots};
 ghost use Rattle.capi.specs.Calls.{after, readFlat, loadFlat, flatTables, checkFlat, rewriteFlat, beginFlat, runFlat, compileFlat};
 
 // Reads a sheet's text into a flat query.
@@ -32,7 +33,7 @@ pub extern "C" fn capeshard_read_query(text: &[u8], limit: usize, query: &mut [u
         ⌝ }
 {
     if query.len() < QUERY_ROOM {
-        return status(Verdict::Refused(Refusal::ShortSlice));
+        return short_slice();
     }
     let read = text::read_query(text, limit);
     let verdict = read.verdict;
@@ -57,7 +58,7 @@ pub extern "C" fn capeshard_read_database(
         ⌝ }
 {
     if database.len() < DATABASE_ROOM {
-        return status(Verdict::Refused(Refusal::ShortSlice));
+        return short_slice();
     }
     let read = loading::read_database(text, store);
     let verdict = read.verdict;
@@ -78,11 +79,8 @@ pub extern "C" fn capeshard_check(
 ) -> u64
     ensures { λ r. ⌜ r ≡ status (verdict (checkFlat (min limit nodeLimit) (now (query .entry)) (now (database .entry)) (now (store .entry)))) ⌝ }
 {
-    if query.len() < QUERY_ROOM {
-        return status(Verdict::Refused(Refusal::ShortSlice));
-    }
-    if database.len() < DATABASE_ROOM {
-        return status(Verdict::Refused(Refusal::ShortSlice));
+    if !have_room(query, database) {
+        return short_slice();
     }
     let checked = checking::check(decode_query(query), decode_database(database), store, limit);
     let verdict = checked.verdict;
@@ -104,11 +102,8 @@ pub extern "C" fn capeshard_rewrite(
         × (now (query .exit) ≡ after flatQuery (rewriteFlat (min limit nodeLimit) (now (query .entry)) (now (database .entry)) (now (store .entry)) kind node) (now (query .entry)))
         ⌝ }
 {
-    if query.len() < QUERY_ROOM {
-        return status(Verdict::Refused(Refusal::ShortSlice));
-    }
-    if database.len() < DATABASE_ROOM {
-        return status(Verdict::Refused(Refusal::ShortSlice));
+    if !have_room(query, database) {
+        return short_slice();
     }
     let given = decode_query(query);
     let next = rewriting::rewrite(given, decode_database(database), store, limit, kind, node);
@@ -140,14 +135,11 @@ pub extern "C" fn capeshard_run(
         × (now (out .exit) ≡ after flatRun (runFlat (min limit nodeLimit) (now (query .entry)) (now (database .entry)) (now (store .entry)) rows budget (now (workspace .entry)) (now (out .entry)) (now (answer .entry))) (now (out .entry)))
         ⌝ }
 {
-    if query.len() < QUERY_ROOM {
-        return status(Verdict::Refused(Refusal::ShortSlice));
-    }
-    if database.len() < DATABASE_ROOM {
-        return status(Verdict::Refused(Refusal::ShortSlice));
+    if !have_room(query, database) {
+        return short_slice();
     }
     if out.len() < RUN_ROOM {
-        return status(Verdict::Refused(Refusal::ShortSlice));
+        return short_slice();
     }
     let ran = run::run(
         decode_query(query),
@@ -186,14 +178,11 @@ pub extern "C" fn capeshard_compile(
         × (now (plan .exit) ≡ after flatSlots (compileFlat (min limit nodeLimit) (now (query .entry)) (now (database .entry)) (now (store .entry)) (now (plan .entry))) (now (plan .entry)))
         ⌝ }
 {
-    if query.len() < QUERY_ROOM {
-        return status(Verdict::Refused(Refusal::ShortSlice));
-    }
-    if database.len() < DATABASE_ROOM {
-        return status(Verdict::Refused(Refusal::ShortSlice));
+    if !have_room(query, database) {
+        return short_slice();
     }
     if plan.len() < PLAN_ROOM {
-        return status(Verdict::Refused(Refusal::ShortSlice));
+        return short_slice();
     }
     let compiled = compiling::compile(decode_query(query), decode_database(database), store, limit);
     let verdict = compiled.verdict;

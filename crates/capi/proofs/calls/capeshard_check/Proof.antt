@@ -1,47 +1,59 @@
 -- Each way out is the definition's reply.
 use borrow.Author.Needs.{needs}
 use native.Mathlib.Omega.{arith}
-use Prim.Native.Nat.{ℕ, min}
+use Prim.Native.Nat.{ℕ, min, _≤_}
 use mathlib.Core.Path.{_≡_, ap, sym, _∙_}
+use mathlib.Core.Bool.{true}
 use denote.Ref.{now}
+use lib.ListN.{length}
+use Rattle.algebra.specs.Term.{Term}
 use Rattle.relation.specs.Rows.{columns}
-use Rattle.database.specs.Refusals.{verdict}
+use Rattle.database.specs.declared.Database.{Database}
+use Rattle.database.specs.Refusals.{Reply, verdict}
 use Rattle.query.specs.declared.CheckedQuery.{CheckedQuery}
+use Rattle.query.specs.declared.Query.{Query}
 use Rattle.query.specs.Lines.{nodeLimit}
 use Rattle.query.specs.Check.{checkOver}
-use Rattle.capi.specs.Flat.{status}
-use Rattle.capi.proofs.Rooms.{short-query, short-database, both-roomy}
+use Rattle.flat.specs.Flat.{status, queryRoom, databaseRoom, haveRoom}
+use Rattle.capi.proofs.Rooms.{lacks, has, short-either, both-roomy}
 use Rattle.capi.proofs.calls.capeshard_check.Statement.{statement}
 use Rattle.capi.proofs.calls.capeshard_check.Tie as tie
 
+-- the check of a query over a database
+module _ (s : tie.Start) where
+  abbrev checks : Query → Database → Reply Term
+  checks q d = checkOver columns (min (s .args .limit) nodeLimit) q d (now (s .args .store))
+
+-- with both rooms
+module _ (i : tie.Else1) where
+  abbrev start : tie.Start
+  start = i .before .before .before .before .before
+
+  rooms : (haveRoom (now (start .args .query)) (now (start .args .database)) ≡ true)
+      × (queryRoom ≤ length (now (start .args .query))) × (databaseRoom ≤ length (now (start .args .database)))
+  rooms = has (now (start .args .query)) (now (start .args .database)) _ (i .before .have-room .ensures) (i .if1 .left)
+
 returns : tie.Need-returns
 returns c =
-    let a = c .before .before .before .before .before .args in
-    c .status .ensures
+    let h = c .before .before in
+    let s = h .before .before .before .before in
+    c .short-slice .ensures
     ∙ ap (λ r. status (verdict r))
-    (sym (short-query (now (a .query)) (now (a .database)) (λ q d. checkOver columns (min (a .limit) nodeLimit) q d (now (a .store))) (c .before .if1 .taken)))
+    (sym (short-either (now (s .args .query)) (now (s .args .database)) (checks s)
+    (lacks (now (s .args .query)) (now (s .args .database)) _ (h .have-room .ensures) (c .before .if1 .taken))))
 
 returns-2 : tie.Need-returns-2
 returns-2 c =
-    let a = c .before .before .before .before .before .before .args in
-    c .status2 .ensures
-    ∙ ap (λ r. status (verdict r))
-    (sym (short-database (now (a .query)) (now (a .database)) (λ q d. checkOver columns (min (a .limit) nodeLimit) q d (now (a .store)))
-    (c .before .before .if1 .left) (c .before .if2 .taken)))
-
-returns-3 : tie.Need-returns-3
-returns-3 c =
     let k = c .before in
     let d = k .before in
     let q = d .before in
-    let a = q .before .before .before .before .before .before .args in
-    c .status3 .ensures ∙ ap (λ (r : CheckedQuery). status (r .verdict)) (k .check .ensures)
+    let s = start (q .before) in
+    c .status .ensures ∙ ap (λ (r : CheckedQuery). status (r .verdict)) (k .check .ensures)
     ∙ ap (λ r. status (verdict r))
-    (sym (both-roomy (now (a .query)) (now (a .database)) (λ q d. checkOver columns (min (a .limit) nodeLimit) q d (now (a .store)))
-    (q .before .before .if1 .left) (q .before .if2 .left) (q .decode-query .result) (d .decode-database .result) (q .decode-query .ensures)
+    (sym (both-roomy (now (s .args .query)) (now (s .args .database)) (checks s) (rooms (q .before) .0) _ _ (q .decode-query .ensures)
     (d .decode-database .ensures)))
 
 pub capeshard-check-spec : {M : Type 1} → statement M
 capeshard-check-spec =
-    tie.close (tie.spec (λ c κs. search needs) returns (λ c κs. search needs) returns-2 (λ c κs. search needs) (λ c κs. search needs)
-    (λ c κs. search needs) (λ c κs. search needs) returns-3)
+    tie.close (tie.spec (λ c κs. search needs) (λ c κs. search needs) returns (λ c κs. rooms c .1) (λ c κs. rooms (c .before) .2) (λ c κs. search needs)
+    (λ c κs. search needs) returns-2)

@@ -1,0 +1,5 @@
+pub mod Blocks
+pub mod FlatQueries
+pub mod BitSets
+pub mod RoundTrip
+pub mod FlatPlans
