@@ -21,12 +21,16 @@ module _ {A : Type 0} (n : ℕ) (s : List ℕ) (r : Reply A) where
   pub roomy : n ≤ length s → (roomFor n s >>= λ _. r) ≡ r
   roomy h = ap (λ b. require b ShortSlice >>= λ _. r) (le-leb n (length s) h)
 
+-- both have room
+abbrev pub Roomy : List ℕ → List ℕ → Type 0
+Roomy q d = (haveRoom q d ≡ true) × (queryRoom ≤ length q) × (databaseRoom ≤ length d)
+
 -- what the test of both tells
 module _ (q d : List ℕ) (r : Bool) (e : r ≡ haveRoom q d) where
   pub lacks : not r ≡ true → haveRoom q d ≡ false
   lacks h = sym e ∙ not-true r h
 
-  pub has : not r ≡ false → (haveRoom q d ≡ true) × (queryRoom ≤ length q) × (databaseRoom ≤ length d)
+  pub has : not r ≡ false → Roomy q d
   has h =
       let both = sym e ∙ not-false r h in (
         both,

@@ -1,11 +1,9 @@
 -- Each way out is the definition's reply.
 use borrow.Author.Needs.{needs}
 use native.Mathlib.Omega.{arith}
-use Prim.Native.Nat.{ℕ, min, _≤_}
+use Prim.Native.Nat.{ℕ, min}
 use mathlib.Core.Path.{_≡_, ap, sym, _∙_}
-use mathlib.Core.Bool.{true}
 use denote.Ref.{now}
-use lib.ListN.{length}
 use Rattle.algebra.specs.Term.{Term}
 use Rattle.relation.specs.Rows.{columns}
 use Rattle.database.specs.declared.Database.{Database}
@@ -14,8 +12,8 @@ use Rattle.query.specs.declared.CheckedQuery.{CheckedQuery}
 use Rattle.query.specs.declared.Query.{Query}
 use Rattle.query.specs.Lines.{nodeLimit}
 use Rattle.query.specs.Check.{checkOver}
-use Rattle.flat.specs.Flat.{status, queryRoom, databaseRoom, haveRoom}
-use Rattle.capi.proofs.Rooms.{lacks, has, short-either, both-roomy}
+use Rattle.flat.specs.Flat.{status}
+use Rattle.capi.proofs.Rooms.{Roomy, lacks, has, short-either, both-roomy}
 use Rattle.capi.proofs.calls.capeshard_check.Statement.{statement}
 use Rattle.capi.proofs.calls.capeshard_check.Tie as tie
 
@@ -29,8 +27,7 @@ module _ (i : tie.Else1) where
   abbrev start : tie.Start
   start = i .before .before .before .before .before
 
-  rooms : (haveRoom (now (start .args .query)) (now (start .args .database)) ≡ true)
-      × (queryRoom ≤ length (now (start .args .query))) × (databaseRoom ≤ length (now (start .args .database)))
+  rooms : Roomy (now (start .args .query)) (now (start .args .database))
   rooms = has (now (start .args .query)) (now (start .args .database)) _ (i .before .have-room .ensures) (i .if1 .left)
 
 returns : tie.Need-returns

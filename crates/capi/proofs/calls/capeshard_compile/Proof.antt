@@ -1,12 +1,10 @@
 -- Each way out is the definition's reply.
 use borrow.Author.Needs.{needs}
 use native.Mathlib.Omega.{arith}
-use Prim.Native.Nat.{ℕ, min, _≤_}
+use Prim.Native.Nat.{ℕ, min}
 use mathlib.Core.Path.{_≡_, ap, _∙_}
-use mathlib.Core.Bool.{true}
 use mathlib.Core.List.{List}
 use denote.Ref.{now}
-use lib.ListN.{length}
 use Rattle.relation.specs.Rows.{columns}
 use Rattle.database.specs.declared.Database.{Database}
 use Rattle.database.specs.Refusals.{Reply, verdict, _>>=_}
@@ -16,11 +14,11 @@ use Rattle.plan.specs.declared.Slot.{Slot}
 use Rattle.plan.specs.Plan.{compile, planValue}
 use Rattle.compiling.specs.declared.Compiled.{Compiled}
 use Rattle.compiling.specs.Compiled.{slotsOf}
-use Rattle.flat.specs.Flat.{flatSlots, planSlots, over, queryRoom, databaseRoom, haveRoom, planRoom}
+use Rattle.flat.specs.Flat.{flatSlots, planSlots, over, planRoom}
 use Rattle.capi.specs.Calls.{roomFor, withRoom}
 use Rattle.flat.proofs.FlatPlans.{compiled-slots}
 use Rattle.capi.proofs.Replies.{says-short, says-refused, says-accepted}
-use Rattle.capi.proofs.Rooms.{lacks, has, short-either, short-third, all-roomy}
+use Rattle.capi.proofs.Rooms.{Roomy, lacks, has, short-either, short-third, all-roomy}
 use Rattle.capi.proofs.calls.capeshard_compile.Statement.{statement}
 use Rattle.capi.proofs.calls.capeshard_compile.Tie as tie
 
@@ -40,8 +38,7 @@ module _ (i : tie.Else1) where
   abbrev start : tie.Start
   start = i .before .before .before .before .before .before
 
-  rooms : (haveRoom (now (start .args .query)) (now (start .args .database)) ≡ true)
-      × (queryRoom ≤ length (now (start .args .query))) × (databaseRoom ≤ length (now (start .args .database)))
+  rooms : Roomy (now (start .args .query)) (now (start .args .database))
   rooms = has (now (start .args .query)) (now (start .args .database)) _ (i .before .have-room .ensures) (i .if1 .left)
 
 -- once it is compiled

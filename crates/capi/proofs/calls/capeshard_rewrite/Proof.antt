@@ -1,11 +1,9 @@
 -- Each way out is the definition's reply.
 use borrow.Author.Needs.{needs}
 use native.Mathlib.Omega.{arith}
-use Prim.Native.Nat.{ℕ, min, _≤_}
+use Prim.Native.Nat.{ℕ, min}
 use mathlib.Core.Path.{_≡_, ap, _∙_}
-use mathlib.Core.Bool.{true}
 use denote.Ref.{now}
-use lib.ListN.{length}
 use Rattle.relation.specs.Rows.{columns}
 use Rattle.database.specs.declared.Database.{Database}
 use Rattle.database.specs.Refusals.{Reply, verdict}
@@ -13,10 +11,10 @@ use Rattle.query.specs.declared.Query.{Query}
 use Rattle.query.specs.Lines.{nodeLimit}
 use Rattle.rewrite.specs.declared.Rewritten.{Rewritten}
 use Rattle.rewrite.specs.Rewrite.{rewrite, handedBack}
-use Rattle.flat.specs.Flat.{queryRoom, flatQuery, over, databaseRoom, haveRoom}
+use Rattle.flat.specs.Flat.{flatQuery, over}
 use Rattle.capi.specs.Calls.{withFlat}
 use Rattle.capi.proofs.Replies.{says-short, says-refused, says-accepted}
-use Rattle.capi.proofs.Rooms.{lacks, has, short-either, both-roomy}
+use Rattle.capi.proofs.Rooms.{Roomy, lacks, has, short-either, both-roomy}
 use Rattle.capi.proofs.calls.capeshard_rewrite.Statement.{statement}
 use Rattle.capi.proofs.calls.capeshard_rewrite.Tie as tie
 
@@ -30,8 +28,7 @@ module _ (i : tie.Else1) where
   abbrev start : tie.Start
   start = i .before .before .before .before .before .before
 
-  rooms : (haveRoom (now (start .args .query)) (now (start .args .database)) ≡ true)
-      × (queryRoom ≤ length (now (start .args .query))) × (databaseRoom ≤ length (now (start .args .database)))
+  rooms : Roomy (now (start .args .query)) (now (start .args .database))
   rooms = has (now (start .args .query)) (now (start .args .database)) _ (i .before .have-room .ensures) (i .if1 .left)
 
 -- once it is taken

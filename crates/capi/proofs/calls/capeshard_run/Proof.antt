@@ -1,11 +1,9 @@
 -- Each way out is the definition's reply.
 use borrow.Author.Needs.{needs}
 use native.Mathlib.Omega.{arith}
-use Prim.Native.Nat.{ℕ, min, _≤_}
+use Prim.Native.Nat.{ℕ, min}
 use mathlib.Core.Path.{_≡_, sym}
-use mathlib.Core.Bool.{true}
 use denote.Ref.{now}
-use lib.ListN.{length}
 use Rattle.algebra.specs.Term.{Term}
 use Rattle.relation.specs.Rows.{columns}
 use Rattle.database.specs.declared.Database.{Database}
@@ -15,10 +13,10 @@ use Rattle.database.specs.Refusals.{Reply, refused, _>>=_}
 use Rattle.query.specs.declared.Query.{Query}
 use Rattle.query.specs.Lines.{nodeLimit}
 use Rattle.machine.specs.Run.{Answer, begin, runQuery}
-use Rattle.flat.specs.Flat.{status, queryRoom, databaseRoom, haveRoom, runRoom}
+use Rattle.flat.specs.Flat.{status, runRoom}
 use Rattle.capi.specs.Calls.{roomFor, withFlat, withRoom}
 use Rattle.capi.proofs.RunReplies.{Ends, ends-same, ends-short, ends-refused, ends-finished}
-use Rattle.capi.proofs.Rooms.{lacks, has, short-either, short-third, all-roomy}
+use Rattle.capi.proofs.Rooms.{Roomy, lacks, has, short-either, short-third, all-roomy}
 use Rattle.capi.proofs.calls.capeshard_run.Statement.{statement}
 use Rattle.capi.proofs.calls.capeshard_run.Tie as tie
 
@@ -46,8 +44,7 @@ module _ (i : tie.Else1) where
   abbrev start : tie.Start
   start = i .before .before .before .before .before .before .before .before
 
-  rooms : (haveRoom (now (start .args .query)) (now (start .args .database)) ≡ true)
-      × (queryRoom ≤ length (now (start .args .query))) × (databaseRoom ≤ length (now (start .args .database)))
+  rooms : Roomy (now (start .args .query)) (now (start .args .database))
   rooms = has (now (start .args .query)) (now (start .args .database)) _ (i .before .have-room .ensures) (i .if1 .left)
 
 -- once it has run
