@@ -15,9 +15,9 @@ use Rattle.database.specs.declared.Verdict.{Verdict}
 use Rattle.database.specs.declared.Verdict.the-variants.{Accepted, Refused}
 use Rattle.database.specs.Refusals.{Reply, refused, accepted, verdict, _>>=_}
 use Rattle.database.proofs.Verdicts.{verdict-accepted, verdict-refused}
-use Rattle.writing.specs.declared.Written.{Written}
+use Rattle.output.specs.declared.Written.{Written}
 use Rattle.text.specs.Texts.{refusalText, answerText}
-use Rattle.writing.specs.Replies.{writeReply, sliceAfter}
+use Rattle.output.specs.Replies.{writeReply, sliceAfter}
 use Rattle.writing.specs.Rooms.{refusalRoom, answerRoom, rowRoom}
 use Rattle.machine.specs.declared.Outcome.{Outcome}
 use Rattle.machine.specs.declared.Outcome.the-variants as outcome

@@ -13,11 +13,11 @@ use Rattle.database.specs.Stored.{schema, tableRows}
 use Rattle.database.specs.Refusals.{Reply, refused, accepted, _>>=_}
 use Rattle.query.specs.declared.Query.{Query}
 use Rattle.query.specs.Check.{checkOver}
-use Rattle.writing.specs.declared.Written.{Written}
+use Rattle.output.specs.declared.Written.{Written}
 use Rattle.text.specs.Lines.{whole}
 use Rattle.text.specs.Texts.{readNodes, queryValue, databaseValue}
 use Rattle.text.specs.Replies.{loadTables, storeAfter}
-use Rattle.writing.specs.Replies.{writeReply, sliceAfter}
+use Rattle.output.specs.Replies.{writeReply, sliceAfter}
 use Rattle.machine.specs.declared.Outcome.{Outcome}
 use Rattle.machine.specs.declared.Outcome.the-variants as outcome
 use Rattle.machine.specs.Run.{Answer, execute}
