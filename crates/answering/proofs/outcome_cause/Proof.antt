@@ -8,10 +8,10 @@ use mathlib.Core.List.{List, [], _∷_, _++_}
 use mathlib.Core.Logic.{⊎-elim}
 use lib.ListN.{length, take, drop, getD, set}
 use denote.Ref.{now}
-use Rattle.engine.proofs.stages.outcome_cause.Statement.{statement}
-use Rattle.engine.proofs.stages.outcome_cause.Tie as tie
-use Rattle.engine.proofs.stages.outcome_cause.Reads as reads
-use Rattle.engine.proofs.stages.outcome_cause.Lts as lts
+use Rattle.answering.proofs.outcome_cause.Statement.{statement}
+use Rattle.answering.proofs.outcome_cause.Tie as tie
+use Rattle.answering.proofs.outcome_cause.Reads as reads
+use Rattle.answering.proofs.outcome_cause.Lts as lts
 
 returns-2 : tie.Need-returns-2
 returns-2 c = rw (c .before .outcome .given .1)

@@ -24,8 +24,8 @@ use Rattle.machine.specs.declared.Outcome.the-variants as outcome
 use Rattle.machine.specs.declared.Ran.{Ran}
 use Rattle.machine.specs.Run.{Answer, ranOf}
 use Rattle.run.proofs.Meaning.{Ended, ran-refused}
-use Rattle.engine.specs.Answer.{limits, replyText, answer}
-use Rattle.engine.specs.Stages.{causeOf, outcomeCause, answerBook, Writes}
+use Rattle.answering.specs.Answer.{limits, replyText, answer}
+use Rattle.answering.specs.Stages.{causeOf, outcomeCause, answerBook, Writes}
 
 -- what `write_refusal` promises
 abbrev pub Refuses : List ℕ → List ℕ → Written → Refusal → Type 0

@@ -7,11 +7,11 @@ use Rattle.relation.specs.Rows.{columns}
 use Rattle.rewrite.specs.declared.Rewritten.{Rewritten}
 use Rattle.rewrite.specs.Rewrite.{handedBack}
 use Rattle.text.specs.Lines.{whole}
-use Rattle.engine.specs.Answer.{applySteps}
-use Rattle.engine.specs.Stages.{answerRun}
-use Rattle.engine.proofs.Printed.{writes-as, stops, goes-on}
-use Rattle.engine.proofs.stages.answer_steps.Statement.{statement}
-use Rattle.engine.proofs.stages.answer_steps.Tie as tie
+use Rattle.answering.specs.Answer.{applySteps}
+use Rattle.answering.specs.Stages.{answerRun}
+use Rattle.answering.proofs.Printed.{writes-as, stops, goes-on}
+use Rattle.answering.proofs.answer_steps.Statement.{statement}
+use Rattle.answering.proofs.answer_steps.Tie as tie
 
 returns : tie.Need-returns
 returns c =

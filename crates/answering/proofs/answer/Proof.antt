@@ -4,9 +4,9 @@ use mathlib.Core.Path.{_≡_, refl, ap, sym, _∙_}
 use lib.ListN.{length}
 use denote.Ref.{now}
 use Rattle.relation.specs.Rows.{columns}
-use Rattle.engine.proofs.Printed.{writes-refused, writes-as, long-sheet, long-book, long-steps, short-files}
-use Rattle.engine.proofs.stages.answer.Statement.{statement}
-use Rattle.engine.proofs.stages.answer.Tie as tie
+use Rattle.answering.proofs.Printed.{writes-refused, writes-as, long-sheet, long-book, long-steps, short-files}
+use Rattle.answering.proofs.answer.Statement.{statement}
+use Rattle.answering.proofs.answer.Tie as tie
 
 returns : tie.Need-returns
 returns c =

@@ -24,7 +24,7 @@ use Rattle.query.proofs.Reading.{size-lines}
 use Rattle.query.proofs.CheckedOver.{check-over-iff}
 use Rattle.machine.specs.Run.{Answer, execute, spaceFor, begin, runQuery}
 use Rattle.run.proofs.Meaning.{Ended, executed}
-use Rattle.engine.proofs.FewRows.{few-answer}
+use Rattle.answering.proofs.FewRows.{few-answer}
 
 -- each fix is a node
 fixes-nodes : (t : Term) → length (fixNumbers t) ≤ size t

@@ -12,10 +12,10 @@ use Rattle.database.proofs.Verdicts.{verdict-accepted, verdict-refused}
 use Rattle.query.specs.declared.Query.{Query}
 use Rattle.rewrite.specs.declared.Rewritten.{Rewritten}
 use Rattle.rewrite.specs.Rewrite.{rewrite, handedBack, rewritten}
-use Rattle.engine.specs.Answer.{limits}
-use Rattle.engine.proofs.StepLists.{Due, due-first, due-none, due-bad, due-on, due-refused, due-more}
-use Rattle.engine.proofs.stages.apply_steps.Statement.{statement}
-use Rattle.engine.proofs.stages.apply_steps.Tie as tie
+use Rattle.answering.specs.Answer.{limits}
+use Rattle.answering.proofs.StepLines.{Due, due-first, due-none, due-bad, due-on, due-refused, due-more}
+use Rattle.answering.proofs.apply_steps.Statement.{statement}
+use Rattle.answering.proofs.apply_steps.Tie as tie
 
 abbrev Inv-loop : tie.InvT-loop
 Inv-loop query database store steps held₀ place₀ held place = Due database store steps query place held

@@ -7,11 +7,11 @@ use Rattle.relation.specs.Rows.{columns}
 use Rattle.text.specs.declared.ReadQuery.{ReadQuery}
 use Rattle.text.specs.Texts.{readNodes, queryValue}
 use Rattle.text.specs.Replies.{readOr}
-use Rattle.engine.specs.Answer.{limits}
-use Rattle.engine.specs.Stages.{answerQuery}
-use Rattle.engine.proofs.Printed.{writes-as, stops, goes-on}
-use Rattle.engine.proofs.stages.answer_sheet.Statement.{statement}
-use Rattle.engine.proofs.stages.answer_sheet.Tie as tie
+use Rattle.answering.specs.Answer.{limits}
+use Rattle.answering.specs.Stages.{answerQuery}
+use Rattle.answering.proofs.Printed.{writes-as, stops, goes-on}
+use Rattle.answering.proofs.answer_sheet.Statement.{statement}
+use Rattle.answering.proofs.answer_sheet.Tie as tie
 
 returns : tie.Need-returns
 returns c =

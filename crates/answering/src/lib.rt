@@ -23,8 +23,8 @@ ghost use lib.ListN.{length};
 ghost use Rattle.rewrite.specs.Rewrite.{rewritten};
 ghost use Rattle.text.specs.Lines.{whole};
 ghost use Rattle.output.specs.Replies.{writeReply, sliceAfter};
-ghost use Rattle.engine.specs.Answer.{applySteps, replyText, answerBytes};
-ghost use Rattle.engine.specs.Stages.{causeOf, outcomeCause, answerRun, answerSteps, answerQuery, answerSheet, answerBook, Writes, replyRoom};
+ghost use Rattle.answering.specs.Answer.{applySteps, replyText, answerBytes};
+ghost use Rattle.answering.specs.Stages.{causeOf, outcomeCause, answerRun, answerSteps, answerQuery, answerSheet, answerBook, Writes, replyRoom};
 
 pub const NODES_TAKEN: usize = 24;
 

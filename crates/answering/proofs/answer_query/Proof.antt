@@ -6,11 +6,11 @@ use denote.Ref.{now}
 use Rattle.relation.specs.Rows.{columns}
 use Rattle.query.specs.declared.CheckedQuery.{CheckedQuery}
 use Rattle.query.specs.Check.{checkOver}
-use Rattle.engine.specs.Answer.{limits}
-use Rattle.engine.specs.Stages.{answerSteps}
-use Rattle.engine.proofs.Printed.{stops, goes-on}
-use Rattle.engine.proofs.stages.answer_query.Statement.{statement}
-use Rattle.engine.proofs.stages.answer_query.Tie as tie
+use Rattle.answering.specs.Answer.{limits}
+use Rattle.answering.specs.Stages.{answerSteps}
+use Rattle.answering.proofs.Printed.{stops, goes-on}
+use Rattle.answering.proofs.answer_query.Statement.{statement}
+use Rattle.answering.proofs.answer_query.Tie as tie
 
 returns : tie.Need-returns
 returns c =

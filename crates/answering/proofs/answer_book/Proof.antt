@@ -8,11 +8,11 @@ use Rattle.text.specs.declared.ReadDatabase.{ReadDatabase}
 use Rattle.text.specs.Texts.{databaseValue}
 use Rattle.text.specs.Replies.{readOr, loadTables, storeAfter}
 use Rattle.database.specs.Refusals.{accepted}
-use Rattle.engine.specs.Answer.{emptyStore}
-use Rattle.engine.specs.Stages.{answerSheet}
-use Rattle.engine.proofs.Printed.{writes-as, stops, goes-on}
-use Rattle.engine.proofs.stages.answer_book.Statement.{statement}
-use Rattle.engine.proofs.stages.answer_book.Tie as tie
+use Rattle.answering.specs.Answer.{emptyStore}
+use Rattle.answering.specs.Stages.{answerSheet}
+use Rattle.answering.proofs.Printed.{writes-as, stops, goes-on}
+use Rattle.answering.proofs.answer_book.Statement.{statement}
+use Rattle.answering.proofs.answer_book.Tie as tie
 
 returns : tie.Need-returns
 returns c =

@@ -3,12 +3,12 @@ use native.Mathlib.Omega.{arith}
 use mathlib.Core.Path.{_≡_, refl}
 use denote.Ref.{now}
 use Rattle.relation.specs.Rows.{columns}
-use Rattle.engine.specs.Answer.{limits}
+use Rattle.answering.specs.Answer.{limits}
 use Rattle.run.proofs.Meaning.{run-ended}
-use Rattle.engine.proofs.Roomy.{roomy-run, few-ended}
-use Rattle.engine.proofs.Printed.{run-stops, run-ends}
-use Rattle.engine.proofs.stages.answer_run.Statement.{statement}
-use Rattle.engine.proofs.stages.answer_run.Tie as tie
+use Rattle.answering.proofs.Roomy.{roomy-run, few-ended}
+use Rattle.answering.proofs.Printed.{run-stops, run-ends}
+use Rattle.answering.proofs.answer_run.Statement.{statement}
+use Rattle.answering.proofs.answer_run.Tie as tie
 
 returns : tie.Need-returns
 returns c =

@@ -21,7 +21,7 @@ use Rattle.output.specs.Replies.{writeReply, sliceAfter}
 use Rattle.machine.specs.declared.Outcome.{Outcome}
 use Rattle.machine.specs.declared.Outcome.the-variants as outcome
 use Rattle.machine.specs.Run.{Answer, execute}
-use Rattle.engine.specs.Answer.{limits, applySteps, emptyStore}
+use Rattle.answering.specs.Answer.{limits, applySteps, emptyStore}
 
 -- the cause of a refusal; an acceptance has none
 abbrev pub causeOf : Verdict → Refusal
