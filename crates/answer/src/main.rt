@@ -2,7 +2,7 @@
 // `engine::answer`; here files are read and the bytes written.
 use engine::BYTES_TAKEN;
 use libc::STDOUT_FILENO;
-use writing::Written;
+use output::Written;
 ghost use Rattle.io.specs.Counts.{Counts};
 
 // One byte more than is taken, so that a file over the limit is noticed.

@@ -35,7 +35,7 @@ pub extern "C" fn capeshard_read_query(text: &[u8], limit: usize, query: &mut [u
     if query.len() < QUERY_ROOM {
         return short_slice();
     }
-    let read = text::read_query(text, limit);
+    let read = reading::read_query(text, limit);
     let verdict = read.verdict;
     let Verdict::Accepted = verdict else {
         return status(verdict);

@@ -3,7 +3,4 @@ pub mod RunIsMeaning
 pub mod RewritesInvisible
 pub mod AtReach
 pub mod StepLists
-pub mod Printed
-pub mod FewRows
-pub mod Roomy
 pub mod LeftMeans

@@ -1,4 +1,2 @@
-pub mod Answer
 pub mod Starred
-pub mod Stages
 pub mod Demands

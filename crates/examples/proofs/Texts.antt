@@ -17,7 +17,7 @@ use Rattle.text.specs.Numbers.{bytes, valueFrom, number, digitsBefore, parts, r
 use Rattle.text.specs.Lines.{after, numbersAfter, byForm, byForms, nodeLine, ascending, filled, rowLine, firstLine, due, many}
 use Rattle.text.specs.Texts.{readNodes, readRows, readTable, readTables, rowsText, answerText, refusalText}
 use Rattle.text.specs.Replies.{loadTables}
-use Rattle.engine.specs.Answer.{applySteps, answer, answerBytes}
+use Rattle.answering.specs.Answer.{applySteps, answer, answerBytes}
 use Rattle.examples.specs.Texts.{Example, numbers, answers, edges}
 
 abbrev prints : Example → List Prim.Native.Nat.ℕ

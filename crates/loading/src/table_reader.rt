@@ -1,9 +1,5 @@
 // Reading a book's tables: "for each table `cols=` …, `rows=R` (0–4,096), and R lines `row=`". The same walk looks at the forms and, with
 // `write`, stores the rows from a place of the store on.
-use row_reading::list_reader::Numbers;
-use row_reading::list_reader::number_at;
-use row_reading::row_reader::due_cols;
-use row_reading::row_reader::due_row;
 use column_sets::no_columns;
 use database::Database;
 use database::TABLE_ROWS;
@@ -11,6 +7,10 @@ use database::TABLES;
 use relation::COLUMNS;
 use relation::Columns;
 use relation::Row;
+use row_reading::list_reader::Numbers;
+use row_reading::list_reader::number_at;
+use row_reading::row_reader::due_cols;
+use row_reading::row_reader::due_row;
 use text::line_reader::Cursor;
 use text::line_reader::Due;
 use text::line_reader::DueCount;

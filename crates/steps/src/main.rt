@@ -30,12 +30,12 @@ use printing::print_query;
 use printing::print_refusal;
 use query::NODES;
 use query::Query;
+use reading::read_query;
+use reading::read_step;
 use relation::COLUMNS;
 use rewriting::rewrite;
 use text::ReadStep;
 use text::line_reader::find;
-use text::read_query;
-use text::read_step;
 ghost use Rattle.io.specs.Counts.{Counts};
 
 // As many entries as one table can have.

@@ -1,9 +1,9 @@
 // Printing bytes, numbers, refusals and sheets.
 use database::Refusal;
 use libc::STDOUT_FILENO;
+use output::Written;
 use query::Query;
-use writing::Written;
-use writing::write_query;
+use query_writing::write_query;
 use writing::write_refusal;
 
 pub(crate) fn print(text: &[u8]) {

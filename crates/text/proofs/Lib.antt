@@ -6,7 +6,6 @@ pub mod Commas
 pub mod Numbers
 pub mod ReaderLawsDue
 pub mod ReaderLawsMany
-pub mod ReaderLawsQuery
 pub mod NumberLists
 pub mod Forms
 pub mod NodeForms

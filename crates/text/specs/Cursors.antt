@@ -7,7 +7,6 @@ use lib.Dec.{leb, ltb}
 use lib.ListN.{length, take, drop}
 use Rattle.laws.specs.Lists.{if_then_else_}
 use Rattle.laws.specs.Options.{mapped}
-use Rattle.query.specs.declared.Node.{Node}
 use Rattle.text.specs.declared.line_reader.Cursor.{Cursor}
 use Rattle.text.specs.declared.line_reader.Due.{Due}
 use Rattle.text.specs.declared.line_reader.Due.the-variants as word
@@ -15,8 +14,6 @@ use Rattle.text.specs.declared.line_reader.DueCount.{DueCount}
 use Rattle.text.specs.declared.line_reader.DueCount.the-variants as count
 use Rattle.text.specs.declared.line_reader.Opened.{Opened}
 use Rattle.text.specs.declared.line_reader.Opened.the-variants as opened
-use Rattle.text.specs.declared.node_reader.DueNode.{DueNode}
-use Rattle.text.specs.declared.node_reader.DueNode.the-variants as node
 use Rattle.text.specs.Numbers.{bytes, newline}
 use Rattle.text.specs.Lines.{Rest, ifOne, inRange}
 use Rattle.text.specs.Readings.{before, isWord, numbersBehind}
@@ -52,10 +49,6 @@ wordReply (some p) = word.Next (p .1)
 abbrev pub countReply : Option (ℕ × Cursor) → DueCount
 countReply none = count.Bad
 countReply (some p) = count.Count (p .0) (p .1 .at)
-
-abbrev pub nodeDue : Option (Node × Cursor) → DueNode
-nodeDue none = node.Bad
-nodeDue (some p) = node.Next (p .0) (p .1)
 
 -- a word, and a key with a number behind it, by their bytes
 abbrev pub wordForm : List ℕ → List ℕ → Option (Unit {0})

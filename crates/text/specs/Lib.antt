@@ -4,4 +4,3 @@ pub mod Texts
 pub mod Replies
 pub mod Readings
 pub mod Cursors
-pub mod QueryReading

@@ -6,18 +6,12 @@ use Prim.Native.Nat.{ℕ, zero, suc}
 use lib.Dec.{eqb, leb}
 use Rattle.laws.specs.Lists.{if_then_else_, every}
 use Rattle.laws.specs.Options.{present, _then_}
-use Rattle.algebra.specs.declared.Pairing.the-variants.{Union, Join, Except}
-use Rattle.algebra.specs.declared.Condition.the-variants.{Eq, Ne, Max, Same}
-use Rattle.query.specs.declared.Node.{Node}
-use Rattle.query.specs.declared.Node.the-variants.{Table, Var, Fact, Pair, Filter, Copy, Drop, Fix}
 use Rattle.text.specs.declared.number_reader.ReadNumber.{ReadNumber}
 use Rattle.text.specs.declared.number_reader.ReadNumber.the-variants.{Value, Bad}
 use Rattle.text.specs.declared.line_reader.ReadPair.{ReadPair}
 use Rattle.text.specs.declared.line_reader.ReadPair.the-variants as two
-use Rattle.text.specs.declared.node_reader.ReadNode.{ReadNode}
-use Rattle.text.specs.declared.node_reader.ReadNode.the-variants as node
 use Rattle.text.specs.Numbers.{maxNumber, isDigit, valueFrom, numbers}
-use Rattle.text.specs.Lines.{after, ifEmpty, Form, word, one, two}
+use Rattle.text.specs.Lines.{after, ifEmpty}
 
 abbrev pub numberReply : Option ℕ → ReadNumber
 numberReply none = Bad
@@ -47,22 +41,3 @@ before b (c ∷ l) = if eqb c b then 0 else suc (before b l)
 -- the numbers behind a key, the key as its bytes
 abbrev pub numbersBehind : List ℕ → List ℕ → Option (List ℕ)
 numbersBehind key l = after key l then numbers
-
-abbrev pub nodeReply : Option Node → ReadNode
-nodeReply none = node.Bad
-nodeReply (some n) = node.Node n
-
--- document 01's table of lines in four parts
-abbrev pub leafForms : List (Form Node)
-leafForms = one "table=" Table ∷ (one "var=" Var ∷ (two "fact=" Fact ∷ []))
-
-abbrev pub pairForms : List (Form Node)
-pairForms = word "pair=union" (Pair Union) ∷ (word "pair=join" (Pair Join) ∷ (word "pair=except" (Pair Except) ∷ []))
-
-abbrev pub filterForms : List (Form Node)
-filterForms =
-    two "eq=" (λ c x. Filter (Eq c x)) ∷ (two "ne=" (λ c x. Filter (Ne c x)) ∷ (two "max=" (λ c x. Filter (Max c x))
-    ∷ (two "same=" (λ c d. Filter (Same c d)) ∷ [])))
-
-abbrev pub otherForms : List (Form Node)
-otherForms = two "copy=" Copy ∷ (one "drop=" Drop ∷ (one "fix=" Fix ∷ []))

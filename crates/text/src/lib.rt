@@ -1,16 +1,10 @@
 // Reading document 01's text forms.
 pub mod line_reader;
-mod node_reader;
 pub mod number_reader;
-mod query_reader;
-mod step_reader;
 
 use database::Database;
 use database::Verdict;
 use query::Query;
-pub use query_reader::read_query;
-pub use step_reader::due_step;
-pub use step_reader::read_step;
 
 // What reading a query replies; a refusal comes with the empty query.
 pub struct ReadQuery {

@@ -72,7 +72,7 @@ pub fn starts(line: &[u8], key: &[u8]) -> bool
 }
 
 // A line is a word.
-pub(crate) fn is_word(line: &[u8], word: &[u8]) -> bool
+pub fn is_word(line: &[u8], word: &[u8]) -> bool
     ensures { λ r. ⌜ r ≡ isWord (now (word .entry)) (now (line .entry)) ⌝ }
 {
     if line.len() == word.len() {
@@ -83,7 +83,7 @@ pub(crate) fn is_word(line: &[u8], word: &[u8]) -> bool
 }
 
 // A key and one number.
-pub(crate) fn read_one(line: &[u8], key: &[u8]) -> ReadNumber
+pub fn read_one(line: &[u8], key: &[u8]) -> ReadNumber
     ensures { λ r. ⌜ r ≡ numberReply (ifOne (λ n. n) (numbersBehind (now (key .entry)) (now (line .entry)))) ⌝ }
 {
     if starts(line, key) {
@@ -96,7 +96,7 @@ pub(crate) fn read_one(line: &[u8], key: &[u8]) -> ReadNumber
 }
 
 // A key and two numbers with a comma between.
-pub(crate) fn read_two(line: &[u8], key: &[u8]) -> ReadPair
+pub fn read_two(line: &[u8], key: &[u8]) -> ReadPair
     ensures { λ r. ⌜ r ≡ pairReply (ifTwo paired (numbersBehind (now (key .entry)) (now (line .entry)))) ⌝ }
 {
     if starts(line, key) {

@@ -45,7 +45,7 @@ use Rattle.text.proofs.Digits.{few?}
 use Rattle.text.proofs.ColumnLists.{columns-ascend}
 use Rattle.relation.proofs.Entries.{rowsOf-length}
 use Rattle.writing.specs.Rooms.{placeDigits, valueDigits, numberDigits, lineRoom, rowRoom, refusalRoom, answerRoom}
-use Rattle.writing.proofs.LastDigit.{digits-few, digits-more}
+use Rattle.output.proofs.LastDigit.{digits-few, digits-more}
 
 -- a number below 10 ^ k has at most k digits
 tenth-below : (n m : ℕ) → n < m * 10 → n / 10 < m

@@ -1,13 +1,6 @@
-// Writing document 01's text forms.
-mod output;
-mod writers;
+// Writing document 01's output: an answer, or a refusal.
+mod answers;
+mod refused;
 
-pub use writers::write_answer;
-pub use writers::write_query;
-pub use writers::write_refusal;
-
-// What writing a text into a lent slice replies: how many bytes it took, or that the slice is short.
-pub enum Written {
-    Bytes(usize),
-    Short,
-}
+pub use answers::write_answer;
+pub use refused::write_refusal;

@@ -1,0 +1,4 @@
+pub mod StepLines
+pub mod Printed
+pub mod FewRows
+pub mod Roomy

@@ -1,0 +1,2 @@
+pub mod ReaderLawsNodes
+pub mod ReaderLawsQuery

@@ -1,0 +1,2 @@
+pub mod QueryReading
+pub mod NodeReading

@@ -1,0 +1,8 @@
+// Reading a sheet's text and the lines of a steps file.
+mod node_reader;
+mod query_reader;
+mod step_reader;
+
+pub use query_reader::read_query;
+pub use step_reader::due_step;
+pub use step_reader::read_step;
