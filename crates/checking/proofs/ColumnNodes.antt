@@ -11,7 +11,7 @@ use lib.ListN.{getD, drop}
 use lib.Seq.{drop-cons}
 use Rattle.laws.specs.Lists.{if_then_else_, tabulate}
 use Rattle.laws.proofs.Tests.{true-false}
-use Rattle.laws.proofs.RowLists.{length-tabulate, getD-tabulate}
+use Rattle.laws.proofs.Tabulated.{length-tabulate, getD-tabulate}
 use Rattle.laws.proofs.Indexed.{is-tabulate}
 use Rattle.laws.proofs.Passes.{filledTo-at}
 use Rattle.algebra.specs.declared.Pairing.{Pairing}
@@ -25,9 +25,9 @@ use Rattle.query.specs.declared.Node.the-variants.{Table, Var, Fact, Pair, Filt
 use Rattle.query.specs.declared.Query.{Query}
 use Rattle.query.specs.Lines.{nodeLimit, nodes}
 use Rattle.query.specs.Facts.{Visit}
-use Rattle.query.specs.Shape.{root, Shaped}
+use Rattle.query.specs.Shape.{root, Shaped, hasStep}
 use Rattle.query.specs.Passes.{noVisit, visitsOf, visitAt}
-use Rattle.checking.specs.NodeColumns.{hasStep, pairColumns, nodeColumns, columnsTo}
+use Rattle.checking.specs.NodeColumns.{pairColumns, nodeColumns, columnsTo}
 use Rattle.query.proofs.Starts.{size-pos}
 use Rattle.query.proofs.Operands.{lastOf, firstOf, Under}
 use Rattle.query.proofs.Contexts.{Context, stepsOver, enter, context}

@@ -14,17 +14,6 @@ use Rattle.query.specs.declared.Query.{Query}
 use Rattle.query.specs.Facts.{Visit, padded}
 use Rattle.query.specs.Passes.{visitsOf}
 
--- a fix line
-abbrev pub hasStep : Node → Bool
-hasStep (Table t) = false
-hasStep (Var v) = false
-hasStep (Fact c x) = false
-hasStep (Pair o) = false
-hasStep (Filter f) = false
-hasStep (Copy c d) = false
-hasStep (Drop c) = false
-hasStep (Fix v) = true
-
 -- the columns of a pair, from those of its sides
 abbrev pub pairColumns : Pairing → Columns → Columns → Columns
 pairColumns Union left right = left

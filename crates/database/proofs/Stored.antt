@@ -9,7 +9,7 @@ use lib.ListN.{getD}
 use borrow.Author.Tests.{leb-true, leb-false, le-leb, lt-leb}
 use Rattle.laws.specs.Lists.{lowest}
 use Rattle.laws.proofs.Tests.{and-true-right}
-use Rattle.laws.proofs.RowLists.{lowest-none, lowest-some}
+use Rattle.laws.proofs.Tabulated.{lowest-none, lowest-some}
 use Rattle.algebra.proofs.Domain.{TypedTables}
 use Rattle.algebra.proofs.Narrow.{Below}
 use Rattle.relation.specs.declared.Columns.{Columns}

@@ -4,7 +4,7 @@
 use mathlib.Core.Path.{_≡_, ap, sym, _∙_, subst}
 use mathlib.Core.List.{List, [], _∷_}
 use Prim.Native.Nat.{ℕ}
-use Rattle.laws.proofs.TextLists.{Each, each-map}
+use Rattle.laws.proofs.EachMember.{Each, each-map}
 use Rattle.algebra.specs.Term.{Term}
 use Rattle.algebra.specs.Columns.{Cols, Schema, noCols, cols}
 use Rattle.algebra.specs.WellFormed.{Closed}

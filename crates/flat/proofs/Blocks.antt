@@ -6,7 +6,7 @@ use native.Mathlib.Omega.{arith}
 use native.Mathlib.Nat.{mul-suc, mul-zero, mul-le-mul-left}
 use lib.ListN.{length, take, drop, getD, set, length-append, length-drop, length-take, List·getD-append}
 use lib.Seq.{sets, sets-eq, take-append-seam, drop-append-add, getD-append-add, drop-drop, drop-cons, take-all, length-take-le}
-use Rattle.laws.proofs.Writers.{flatMap-none, flatMap-more}
+use Rattle.laws.proofs.FlatMaps.{flatMap-none, flatMap-more}
 use Rattle.flat.specs.Flat.{over}
 
 module _ (xs s : List ℕ) where

@@ -7,7 +7,7 @@ use native.Mathlib.Nat.{min-eq-left, min-le-right}
 use lib.ListN.{length, take, drop, getD, length-map, length-take, List·getD-map}
 use lib.Seq.{ext-getD, getD-take, length-take-le}
 use Rattle.laws.specs.Lists.{tabulate}
-use Rattle.laws.proofs.RowLists.{length-tabulate, getD-tabulate}
+use Rattle.laws.proofs.Tabulated.{length-tabulate, getD-tabulate}
 use Rattle.algebra.specs.declared.Pairing.the-variants.{Union, Join, Except}
 use Rattle.algebra.specs.declared.Condition.the-variants.{Eq, Ne, Max, Same}
 use Rattle.query.specs.declared.Line.{Line}

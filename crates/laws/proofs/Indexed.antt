@@ -12,7 +12,7 @@ use lib.Seq.{getD-set-same, getD-set-other, getD-take, getD-drop, length-take-le
 use Rattle.laws.specs.Lists.{every, all, tabulate}
 use Rattle.laws.proofs.Tests.{true-false, same?}
 use Rattle.laws.proofs.Lists.{all-below}
-use Rattle.laws.proofs.RowLists.{length-tabulate, getD-tabulate}
+use Rattle.laws.proofs.Tabulated.{length-tabulate, getD-tabulate}
 
 pub and-unit : (a : Bool) → a && true ≡ a
 and-unit true = refl

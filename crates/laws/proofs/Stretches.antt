@@ -8,7 +8,7 @@ use native.Mathlib.Nat.{not-suc-le-zero, le-of-suc-le-suc, mul-zero, mul-suc}
 use lib.ListN.{length, take, drop, getD, set, replicate, length-append, length-set, length-drop, length-replicate, replicate-append-replicate, take-append-drop, drop-of-length-le, List·getD-append}
 use lib.Seq.{paste, take-all, take-at, drop-at, take-suc, take-append-add, drop-append-add, drop-drop, drop-cons, drop-length, length-take-le, getD-take, set-split, set-at, set-append-left}
 use borrow.Rule.Slice.PartMut.{midOf, putMid}
-use Rattle.laws.proofs.TextLists.{Each}
+use Rattle.laws.proofs.EachMember.{Each}
 
 pub flatten-append : {A : Type 0} (a b : List (List A)) → flatten (a ++ b) ≡ flatten a ++ flatten b
 unfolding flatten

@@ -9,9 +9,9 @@ use lib.Dec.{leb}
 use lib.ListN.{length, set, replicate, length-append}
 use borrow.Author.Tests.{leb-true}
 use Rattle.laws.proofs.Tests.{and-true}
-use Rattle.laws.proofs.Readers.{filled-more}
-use Rattle.laws.proofs.TextLists.{flatMap-append}
-use Rattle.laws.proofs.Writers.{flatMap-none, flatMap-one}
+use Rattle.laws.proofs.Fronts.{filled-more}
+use Rattle.laws.proofs.EachMember.{flatMap-append}
+use Rattle.laws.proofs.FlatMaps.{flatMap-none, flatMap-one}
 use Rattle.algebra.specs.Columns.{noCols}
 use Rattle.relation.specs.declared.Columns.{Columns}
 use Rattle.relation.specs.Rows.{Rows, columns, columnsOf, entries}

@@ -10,18 +10,19 @@ use Rattle.query.specs.declared.Node.{Node}
 use Rattle.query.specs.declared.Node.the-variants.{Table, Var, Fact, Pair, Filter, Copy, Drop, Fix}
 use Rattle.query.specs.declared.Query.{Query}
 use Rattle.query.specs.declared.Facts.{Facts}
+use Rattle.query.specs.Shape.{hasStep}
 use Rattle.rewrite.specs.Places.{lineAt}
 use Rattle.matching.specs.declared.Found.{Found}
 use Rattle.matching.specs.declared.Found.the-variants.{Nothing, FilterFix, FixJoin, JoinFix, FixExcept, DropFix, FixFix}
-use Rattle.matching.specs.Found.{isFix, rightOf, leftOf, overFix, joinFound, lineFound, foundAt, Within, Fits, Placed}
+use Rattle.matching.specs.Found.{rightOf, leftOf, overFix, joinFound, lineFound, foundAt, Within, Fits, Placed}
 
 module _ (q : Query) (facts : Facts) (p : Placed q facts) (k i : ℕ) where
   either : (b : Bool) (m n : Found) → (b ≡ true → Fits facts i m) → Fits facts i n → Fits facts i (if b then m else n)
   either true m n f g = f refl
   either false m n f g = g
 
-  over : (x : ℕ) (m : Found) → (isFix (lineAt q x) ≡ true → Fits facts i m) → Fits facts i (overFix q x m)
-  over x m f = either (isFix (lineAt q x)) m Nothing f tt
+  over : (x : ℕ) (m : Found) → (hasStep (lineAt q x) ≡ true → Fits facts i m) → Fits facts i (overFix q x m)
+  over x m f = either (hasStep (lineAt q x)) m Nothing f tt
 
   join-fits : Fits facts i (joinFound q facts k i)
   join-fits =

@@ -22,13 +22,13 @@ use Rattle.query.specs.declared.Query.{Query}
 use Rattle.query.specs.declared.Facts.{Facts}
 use Rattle.query.specs.Lines.{nodeLimit, nodes}
 use Rattle.query.specs.Facts.{visits, factsOf}
-use Rattle.query.specs.Shape.{root}
+use Rattle.query.specs.Shape.{root, hasStep}
 use Rattle.query.proofs.CheckReply.{Checked}
 use Rattle.query.proofs.Starts.{size-pos}
 use Rattle.rewrite.specs.Places.{lineAt, startAt, last}
 use Rattle.matching.specs.declared.Found.{Found}
 use Rattle.matching.specs.declared.Found.the-variants.{Nothing, FilterFix, FixJoin, JoinFix, FixExcept, DropFix, FixFix}
-use Rattle.matching.specs.Found.{isFix, rightOf, leftOf, overFix, lineFound, foundAt}
+use Rattle.matching.specs.Found.{rightOf, leftOf, overFix, lineFound, foundAt}
 use Rattle.matching.proofs.Standing.{Here, pair-left, pair-right, filter-down, drop-down}
 use Rattle.matching.proofs.Loops.{here-told}
 
@@ -74,7 +74,7 @@ both-found q s (filter f′ x) b e f = rw e
 both-found q s (copy c x y) b e f = rw e
 both-found q s (drop c x) b e f = rw e
 both-found q s (fix v x y) b e f =
-    ap (λ (z : Node). if isFix z then overFix q (last (s + size (fix v x y)) b) (FixFix (last s (fix v x y)) (last (s + size (fix v x y)) b)) else Nothing) e
+    ap (λ (z : Node). if hasStep z then overFix q (last (s + size (fix v x y)) b) (FixFix (last s (fix v x y)) (last (s + size (fix v x y)) b)) else Nothing) e
     ∙ over-found q s (s + size (fix v x y)) b f _ (fix-fix (record { var = v; seed = x; step = y })) (λ z i. ap (λ (w : Term). FixFix (last s (fix v x y)) (last (s + size (fix v x y)) w)) (sym i))
 
 module _ (d : Database) (limit : ℕ) (q : Query) (t : Term) (checked : Checked limit q (schema columns d) t) (counted : length (nodes q) ≡ q .count) (fits : q .count ≤ nodeLimit) (k : ℕ) where

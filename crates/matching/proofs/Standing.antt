@@ -7,7 +7,7 @@ use native.Mathlib.Decide.{decLt}
 use borrow.Author.Tests.{le-leb, lt-leb}
 use lib.ListN.{length, getD, take, drop as dropFirst, length-append, length-map, List·getD-append}
 use lib.Seq.{take-at, drop-at}
-use Rattle.laws.proofs.TextLists.{getD-map}
+use Rattle.laws.proofs.EachMember.{getD-map}
 use Rattle.algebra.specs.declared.Pairing.{Pairing}
 use Rattle.algebra.specs.declared.Condition.{Condition}
 use Rattle.algebra.specs.Term.{Term, table, var, fact, pair, filter, copy, drop, fix}

@@ -24,14 +24,14 @@ use Rattle.query.specs.declared.Facts.{Facts}
 use Rattle.query.specs.Lines.{nodeLimit, nodes, read}
 use Rattle.query.specs.Facts.{visits, factsOf}
 use Rattle.query.specs.Check.{checkOver}
-use Rattle.query.specs.Shape.{root}
+use Rattle.query.specs.Shape.{root, hasStep}
 use Rattle.query.proofs.CheckReply.{Checked}
 use Rattle.query.proofs.CheckedOver.{check-over-iff}
 use Rattle.query.proofs.Reading.{size-lines}
 use Rattle.query.proofs.Starts.{size-pos}
 use Rattle.rewrite.specs.Places.{lineAt, startAt, last}
 use Rattle.rewrite.specs.Rewrite.{around, rule, top, endedAt, replaced, withNodes, rewrite}
-use Rattle.matching.specs.Found.{isFix, foundAt, Placed, stableAt, unusedAt, writtenAt, replyTo, stepReply}
+use Rattle.matching.specs.Found.{foundAt, Placed, stableAt, unusedAt, writtenAt, replyTo, stepReply}
 use Rattle.matching.proofs.Replies.{no-node, past-node, at-node}
 use Rattle.matching.proofs.Standing.{Here, NodeOf, node-of, here-all, here-reads}
 use Rattle.matching.proofs.Loops.{low, here-told, step-start}
@@ -76,7 +76,7 @@ module _ (d : Database) (limit : ℕ) (q : Query) (t : Term) (checked : Checked 
   node n h k = let e = sized in node-of d q t (checked .written) t noCols 0 n h (omega arith) (here-all d q t (checked .written))
 
   -- of a fix, its step starts behind its seed
-  fix-seeded : {C : Cols} {s : ℕ} (a : Term) → Here d q t (checked .written) C s a → isFix (root a) ≡ true → startAt facts (last s a) < startAt facts (last s a - 1)
+  fix-seeded : {C : Cols} {s : ℕ} (a : Term) → Here d q t (checked .written) C s a → hasStep (root a) ≡ true → startAt facts (last s a) < startAt facts (last s a - 1)
   fix-seeded (table x) h e = true-false (sym e)
   fix-seeded (var x) h e = true-false (sym e)
   fix-seeded (fact c x) h e = true-false (sym e)
@@ -93,7 +93,7 @@ module _ (d : Database) (limit : ℕ) (q : Query) (t : Term) (checked : Checked 
   pub placed : Placed q facts
   placed = record { fits = fits; low = low d limit q t checked counted fits; seeded = seeded }
     where
-      seeded : (y : ℕ) → isFix (lineAt q y) ≡ true → startAt facts y < startAt facts (y - 1)
+      seeded : (y : ℕ) → hasStep (lineAt q y) ≡ true → startAt facts y < startAt facts (y - 1)
       seeded y e = elim (decLt y (q .count)) [
         | yes h ↦
             let r = node (y + 1) (omega arith) (omega arith) in
@@ -101,8 +101,8 @@ module _ (d : Database) (limit : ℕ) (q : Query) (t : Term) (checked : Checked 
             let p = size-pos (r .term) in
             let i : last (r .start) (r .term) ≡ y = omega arith in
             subst (λ (j : ℕ). startAt facts j < startAt facts (j - 1)) i
-            (fix-seeded (r .term) (r .here) (ap isFix (sym (here-told d limit q t checked counted fits (r .here) .line)) ∙ ap (λ (j : ℕ). isFix (lineAt q j)) i ∙ e))
-        | no h ↦ true-false (sym (sym (ap isFix (List·getD-eq-default (nodes q) (Table 0) (omega arith))) ∙ e))
+            (fix-seeded (r .term) (r .here) (ap hasStep (sym (here-told d limit q t checked counted fits (r .here) .line)) ∙ ap (λ (j : ℕ). hasStep (lineAt q j)) i ∙ e))
+        | no h ↦ true-false (sym (sym (ap hasStep (List·getD-eq-default (nodes q) (Table 0) (omega arith))) ∙ e))
       ]
 
   module _ (k n : ℕ) where

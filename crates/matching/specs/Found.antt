@@ -17,23 +17,13 @@ use Rattle.query.specs.declared.Node.the-variants.{Table, Var, Fact, Pair, Filt
 use Rattle.query.specs.declared.Query.{Query}
 use Rattle.query.specs.declared.Facts.{Facts}
 use Rattle.query.specs.Lines.{nodeLimit}
+use Rattle.query.specs.Shape.{hasStep}
 use Rattle.query.specs.FreeSets.{noneIn}
 use Rattle.rewrite.specs.Places.{lineAt, startAt, freeAt, columnsAt, fixNumber, StartsLow}
 use Rattle.rewrite.specs.Path.{pathAt}
 use Rattle.rewrite.specs.Splices.{withLines, exchanged, merged}
 use Rattle.matching.specs.declared.Found.{Found}
 use Rattle.matching.specs.declared.Found.the-variants.{Nothing, FilterFix, FixJoin, JoinFix, FixExcept, DropFix, FixFix}
-
--- a fix line
-abbrev pub isFix : Node → Bool
-isFix (Table t) = false
-isFix (Var v) = false
-isFix (Fact c x) = false
-isFix (Pair o) = false
-isFix (Filter f) = false
-isFix (Copy a b) = false
-isFix (Drop a) = false
-isFix (Fix v) = true
 
 -- where the operands of the node of index i end: the last just before it, the first just before the last starts
 abbrev pub rightOf : ℕ → ℕ
@@ -45,7 +35,7 @@ leftOf facts i = startAt facts (i - 1) - 1
 module _ (q : Query) where
   -- what is found over an operand, if that is a fix
   abbrev pub overFix : ℕ → Found → Found
-  overFix x m = if isFix (lineAt q x) then m else Nothing
+  overFix x m = if hasStep (lineAt q x) then m else Nothing
 
   -- k: the kind; i: the index of the node
   module _ (k i : ℕ) where
@@ -111,7 +101,7 @@ Fits facts i (FixFix x y) = (x < startAt facts (y - 1)) × (startAt facts (y - 1
 pub record Placed (q : Query) (facts : Facts) : Type 0 where
   pub fits : q .count ≤ nodeLimit
   pub low : StartsLow facts
-  pub seeded : (y : ℕ) → isFix (lineAt q y) ≡ true → startAt facts y < startAt facts (y - 1)
+  pub seeded : (y : ℕ) → hasStep (lineAt q y) ≡ true → startAt facts y < startAt facts (y - 1)
 
 -- a column of an operand, E, that the fix, D, has too (shared) or lacks (not shared) is not marked
 abbrev pub apartAt : Bool → Cols → Cols → Cols → ℕ → Bool

@@ -11,8 +11,8 @@ use lib.ListN.{getD, take, length-take, length-map}
 use borrow.Author.Tests.{leb-true, le-leb}
 use Rattle.laws.specs.Lists.{lowest}
 use Rattle.laws.proofs.Tests.{true-false, and-true-left, and-true-right, and-true}
-use Rattle.laws.proofs.RowLists.{lowest-none, lowest-some}
-use Rattle.laws.proofs.Faults.{true-or-false}
+use Rattle.laws.proofs.Tabulated.{lowest-none, lowest-some}
+use Rattle.laws.proofs.EmptyLists.{true-or-false}
 use Rattle.algebra.specs.Term.{Term}
 use Rattle.algebra.specs.Columns.{Schema}
 use Rattle.algebra.proofs.Narrow.{Below, Narrow}

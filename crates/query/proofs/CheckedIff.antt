@@ -5,7 +5,7 @@ use mathlib.Core.List.{[]}
 use mathlib.Core.Logic.{_↔_}
 use native.Mathlib.Omega.{arith}
 use Rattle.laws.proofs.Lists.{count}
-use Rattle.laws.proofs.Faults.{append-none}
+use Rattle.laws.proofs.EmptyLists.{append-none}
 use Rattle.algebra.specs.Term.{Term}
 use Rattle.algebra.specs.Columns.{Schema, noCols, fixNumbers}
 use Rattle.algebra.proofs.Distinct.{count-distinct, distinct-count}

@@ -7,7 +7,7 @@ use borrow.Author.Tests.{lt-ltb}
 use Rattle.laws.specs.Lists.{member}
 use Rattle.laws.proofs.Tests.{or-true-left, or-true-right}
 use Rattle.laws.proofs.Lists.{member-head}
-use Rattle.laws.proofs.Faults.{append-none, member-append}
+use Rattle.laws.proofs.EmptyLists.{append-none, member-append}
 use Rattle.algebra.specs.declared.Pairing.{Pairing}
 use Rattle.algebra.specs.declared.Pairing.the-variants.{Union, Join, Except}
 use Rattle.algebra.specs.Term.{Term, pair, fix}

@@ -4,8 +4,8 @@ use mathlib.Core.List.{List, [], _∷_}
 use mathlib.Core.Logic.{_⊎_, inl, inr}
 use Prim.Native.Nat.{ℕ, _+_, _≤_}
 use native.Mathlib.Omega.{arith}
-use Rattle.laws.proofs.TextLists.{Each}
-use Rattle.laws.proofs.Faults.{Ordered, ordered-map, ordered-append}
+use Rattle.laws.proofs.EachMember.{Each}
+use Rattle.laws.proofs.EmptyLists.{Ordered, ordered-map, ordered-append}
 use Rattle.algebra.specs.Term.{Term}
 use Rattle.algebra.specs.Columns.{Cols, noCols, Schema, size}
 use Rattle.database.specs.declared.Refusal.{Refusal}

@@ -5,8 +5,8 @@ use mathlib.Core.List.{List, [], _∷_, _++_}
 use mathlib.Core.Logic.{inl, inr}
 use Prim.Native.Nat.{ℕ, _+_, _≤_}
 use native.Mathlib.Omega.{arith}
-use Rattle.laws.proofs.TextLists.{Each, each-map, each-append}
-use Rattle.laws.proofs.Faults.{ordered-append}
+use Rattle.laws.proofs.EachMember.{Each, each-map, each-append}
+use Rattle.laws.proofs.EmptyLists.{ordered-append}
 use Rattle.algebra.specs.declared.Pairing.{Pairing}
 use Rattle.algebra.specs.declared.Pairing.the-variants.{Union, Join, Except}
 use Rattle.algebra.specs.Term.{Term, table, var, fact, pair, filter, copy, drop, fix}

@@ -8,7 +8,7 @@ use lib.Dec.{eqb}
 use Rattle.laws.specs.Lists.{null, any, member, sift}
 use Rattle.laws.proofs.Tests.{true-false, same?, not-false}
 use Rattle.laws.proofs.Lists.{member-head}
-use Rattle.laws.proofs.Faults.{append-none, member-append, member-sift}
+use Rattle.laws.proofs.EmptyLists.{append-none, member-append, member-sift}
 use Rattle.algebra.specs.declared.Pairing.{Pairing}
 use Rattle.algebra.specs.Term.{Term, table, var, fact, pair, filter, copy, drop, fix}
 use Rattle.algebra.specs.Columns.{free, isClosed, size, fixNumbers}

@@ -9,7 +9,7 @@ use borrow.Author.Tests.{le-leb, lt-leb, leb-true}
 use lib.ListN.{getD}
 use Rattle.laws.specs.Lists.{lowest}
 use Rattle.laws.proofs.Tests.{and-true-left, and-true-right}
-use Rattle.laws.proofs.RowLists.{lowest-none, lowest-some}
+use Rattle.laws.proofs.Tabulated.{lowest-none, lowest-some}
 use Rattle.database.specs.declared.Refusal.the-variants.{QueryForm, NodeCount}
 use Rattle.database.specs.Refusals.{Reply, refused, accepted, require, _>>=_}
 use Rattle.query.specs.declared.Node.the-variants.{Table}

@@ -9,7 +9,7 @@ use borrow.Author.Tests.{ltb-true}
 use Rattle.laws.specs.Lists.{null, any, member, sift}
 use Rattle.laws.proofs.Tests.{true-false, same?, and-true-left, and-true-right, not-false}
 use Rattle.laws.proofs.Lists.{sift-append}
-use Rattle.laws.proofs.Faults.{cons-none, append-none, null-none, null-split, null-both, member-open}
+use Rattle.laws.proofs.EmptyLists.{cons-none, append-none, null-none, null-split, null-both, member-open}
 use Rattle.algebra.specs.declared.Pairing.{Pairing}
 use Rattle.algebra.specs.declared.Pairing.the-variants.{Union, Join, Except}
 use Rattle.algebra.specs.declared.Condition.{Condition}

@@ -3,8 +3,8 @@ use mathlib.Core.Path.{_≡_}
 use mathlib.Core.List.{List}
 use mathlib.Core.Logic.{_⊎_}
 use Prim.Native.Nat.{ℕ, _≤_, _<_}
-use Rattle.laws.proofs.TextLists.{Each}
-use Rattle.laws.proofs.Faults.{Ordered}
+use Rattle.laws.proofs.EachMember.{Each}
+use Rattle.laws.proofs.EmptyLists.{Ordered}
 use Rattle.database.specs.declared.Refusal.{Refusal}
 use Rattle.database.specs.Refusals.{number, placeOf}
 

@@ -7,8 +7,8 @@ use lib.Dec.{ltb}
 use lib.ListN.{length, getD}
 use borrow.Author.Tests.{ltb-true}
 use Rattle.laws.proofs.Tests.{and-true-right}
-use Rattle.laws.proofs.TextLists.{Each}
-use Rattle.laws.proofs.Faults.{each-split, each-index}
+use Rattle.laws.proofs.EachMember.{Each}
+use Rattle.laws.proofs.EmptyLists.{each-split, each-index}
 use Rattle.algebra.specs.Term.{Term, table, var, fact, pair, filter, copy, drop, fix}
 use Rattle.algebra.specs.Columns.{Schema}
 use Rattle.algebra.proofs.Narrow.{Below, Narrow}

@@ -8,7 +8,7 @@ use Prim.Native.Nat.{ℕ, _+_, _<_}
 use native.Mathlib.Decide.{decLt}
 use Rattle.laws.specs.Lists.{_==_}
 use Rattle.laws.proofs.Lists.{all-below, all-true}
-use Rattle.laws.proofs.Faults.{agree-iff, append-none, true-or-false}
+use Rattle.laws.proofs.EmptyLists.{agree-iff, append-none, true-or-false}
 use Rattle.algebra.specs.declared.Pairing.{Pairing}
 use Rattle.algebra.specs.declared.Pairing.the-variants.{Union, Join, Except}
 use Rattle.algebra.specs.Term.{Term, pair, fix}

@@ -55,6 +55,17 @@ isFix v (Copy c d) = false
 isFix v (Drop c) = false
 isFix v (Fix u) = eqb v u
 
+-- a fix line, of whatever number
+abbrev pub hasStep : Node → Bool
+hasStep (Table t) = false
+hasStep (Var v) = false
+hasStep (Fact c x) = false
+hasStep (Pair o) = false
+hasStep (Filter f) = false
+hasStep (Copy c d) = false
+hasStep (Drop c) = false
+hasStep (Fix v) = true
+
 -- where the nodes of a term start, in node order: the index of each one's first line. n: the lines before the term's own
 unfoldable pub starts : ℕ → Term → List ℕ
 starts n (table t) = n ∷ []

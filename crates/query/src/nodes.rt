@@ -5,7 +5,7 @@ ghost use mathlib.Core.Path.{_≡_};
 ghost use Prim.Native.Nat.{_-_, _≤_, _<_};
 ghost use lib.ListN.{getD};
 ghost use Rattle.query.specs.Lines.{nodeLimit, nodes};
-ghost use Rattle.query.specs.Shape.{arity};
+ghost use Rattle.query.specs.Shape.{arity, hasStep};
 
 // The node of an index; those past the count mean nothing.
 pub fn node_at(query: Query, i: usize) -> Node
@@ -30,6 +30,22 @@ pub fn operands(node: Node) -> usize
         Node::Copy(_, _) => 1,
         Node::Drop(_) => 1,
         Node::Fix(_) => 2,
+    }
+}
+
+// Whether a line is a fix.
+pub fn has_step(node: Node) -> bool
+    ensures { λ r. ⌜ r ≡ hasStep node ⌝ }
+{
+    match node {
+        Node::Table(_) => false,
+        Node::Var(_) => false,
+        Node::Fact(_, _) => false,
+        Node::Pair(_) => false,
+        Node::Filter(_) => false,
+        Node::Copy(_, _) => false,
+        Node::Drop(_) => false,
+        Node::Fix(_) => true,
     }
 }
 

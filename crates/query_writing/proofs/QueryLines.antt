@@ -6,7 +6,7 @@ use Prim.Native.Nat.{ℕ, min, _+_, _≤_, _<_}
 use native.Mathlib.Omega.{arith}
 use lib.ListN.{length, take, getD, length-map, length-take, List·getD-map}
 use lib.Seq.{getD-take}
-use Rattle.laws.proofs.Writers.{flatMap-more}
+use Rattle.laws.proofs.FlatMaps.{flatMap-more}
 use Rattle.query.specs.declared.Line.{Line}
 use Rattle.query.specs.declared.Node.{Node}
 use Rattle.query.specs.declared.Node.the-variants.{Table}

@@ -10,7 +10,7 @@ use lib.ListN.{length, drop, set, replicate, length-append}
 use borrow.Author.Tests.{le-leb, lt-leb, leb-true}
 use Rattle.laws.specs.Lists.{if_then_else_, null}
 use Rattle.laws.proofs.Tests.{true-false, and-true-right}
-use Rattle.laws.proofs.Readers.{null-drop, more-drop, filled-more}
+use Rattle.laws.proofs.Fronts.{null-drop, more-drop, filled-more}
 use Rattle.database.specs.declared.Refusal.{Refusal}
 use Rattle.database.specs.declared.Refusal.the-variants.{QueryForm, NodeCount}
 use Rattle.database.specs.declared.Verdict.the-variants.{Accepted}

@@ -9,7 +9,7 @@ use lib.Dec.{ltb}
 use lib.ListN.{getD}
 use borrow.Author.Tests.{ltb-true, lt-ltb, le-ltb}
 use Rattle.laws.proofs.Tests.{and-true-left}
-use Rattle.laws.proofs.RowLists.{getD-tabulate}
+use Rattle.laws.proofs.Tabulated.{getD-tabulate}
 use Rattle.algebra.specs.Columns.{Cols}
 use Rattle.algebra.proofs.Narrow.{Below}
 use Rattle.relation.specs.declared.Columns.{Columns}

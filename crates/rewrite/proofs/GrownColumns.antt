@@ -6,7 +6,7 @@ use Prim.Native.Nat.{ℕ, _<_}
 use lib.Dec.{eqb}
 use lib.ListN.{length, getD}
 use Rattle.laws.specs.Lists.{if_then_else_, any, member, tabulate}
-use Rattle.laws.proofs.RowLists.{length-tabulate, getD-tabulate}
+use Rattle.laws.proofs.Tabulated.{length-tabulate, getD-tabulate}
 use Rattle.laws.proofs.Indexed.{is-tabulate}
 use Rattle.algebra.specs.Columns.{Cols, with, both}
 use Rattle.relation.specs.declared.Columns.{Columns}

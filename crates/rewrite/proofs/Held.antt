@@ -7,7 +7,7 @@ use Prim.Native.Nat.{ℕ, _+_, _-_, _≤_}
 use native.Mathlib.Omega.{arith}
 use lib.ListN.{length, take, drop as dropFirst, getD, length-take, length-map}
 use lib.Seq.{take-at}
-use Rattle.laws.proofs.TextLists.{Each}
+use Rattle.laws.proofs.EachMember.{Each}
 use Rattle.algebra.specs.Term.{Term}
 use Rattle.algebra.specs.Columns.{Cols, noCols, Schema, size}
 use Rattle.algebra.specs.WellFormed.{Closed, Path, WellFormed}

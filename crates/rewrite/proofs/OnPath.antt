@@ -11,8 +11,8 @@ use lib.ListN.{getD}
 use borrow.Author.Tests.{lt-ltb}
 use Rattle.laws.specs.Lists.{if_then_else_, any, member, sift}
 use Rattle.laws.proofs.Tests.{same?, true-false, or-false-left, or-false-right}
-use Rattle.laws.proofs.RowLists.{getD-tabulate}
-use Rattle.laws.proofs.Faults.{cons-none}
+use Rattle.laws.proofs.Tabulated.{getD-tabulate}
+use Rattle.laws.proofs.EmptyLists.{cons-none}
 use Rattle.algebra.specs.declared.Pairing.{Pairing}
 use Rattle.algebra.specs.declared.Pairing.the-variants.{Union, Join, Except}
 use Rattle.algebra.specs.Term.{Term, table, var, fact, pair, filter, copy, drop, fix}

@@ -7,25 +7,8 @@ use query::Variables;
 ghost use mathlib.Core.Path.{_≡_};
 ghost use Prim.Native.Nat.{_-_, _≤_, _<_};
 ghost use Rattle.query.specs.Lines.{nodeLimit};
-ghost use Rattle.rewrite.specs.Places.{lineAt, fixNumber, freeAt, holds};
+ghost use Rattle.rewrite.specs.Places.{fixNumber, freeAt, holds};
 ghost use Rattle.rewrite.specs.Path.{onPath};
-
-// The line of an index; those past the count mean nothing.
-pub fn node_at(query: Query, i: usize) -> Node
-    requires { ⌜ (i < query .count) × (query .count ≤ nodeLimit) ⌝ }
-    ensures { λ r. ⌜ r ≡ lineAt query i ⌝ }
-{
-    let line = query.lines[i];
-    let node = line.node;
-    node
-}
-
-// The index before, and 0 before the first.
-pub fn before(i: usize) -> usize
-    ensures { λ r. ⌜ r ≡ i - 1 ⌝ }
-{
-    if i == 0 { 0 } else { i - 1 }
-}
 
 // The number that a fix line names.
 pub fn fix_number(node: Node) -> u32

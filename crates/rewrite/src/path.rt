@@ -1,8 +1,6 @@
 // The columns along the path of a fix, gathered in one pass over the lines of its step.
 use super::PathColumns;
-use super::nodes::before;
 use super::nodes::fix_number;
-use super::nodes::node_at;
 use super::nodes::on_path;
 use algebra::Condition;
 use column_sets::both;
@@ -11,6 +9,8 @@ use column_sets::with_column;
 use query::Facts;
 use query::Node;
 use query::Query;
+use query::nodes::node_at;
+use query::nodes::preceding;
 use relation::Columns;
 ghost use mathlib.Core.Path.{_≡_};
 ghost use mathlib.Core.List.{[], _∷_};
@@ -58,8 +58,8 @@ fn beside(facts: Facts, v: u32, i: usize) -> Columns
     requires { ⌜ (i < nodeLimit) × StartsLow facts ⌝ }
     ensures { λ r. ⌜ r ≡ columnsOf columns (besideAt facts v i) ⌝ }
 {
-    let right = before(i);
-    let left = before(facts.start[right]);
+    let right = preceding(i);
+    let left = preceding(facts.start[right]);
     both(operand(facts, v, left), operand(facts, v, right))
 }
 
@@ -136,6 +136,6 @@ pub fn path(query: Query, facts: Facts, fix: usize) -> PathColumns
     ensures { λ r. ⌜ r ≡ pathAt query facts fix ⌝ }
 {
     let v = fix_number(node_at(query, fix));
-    let first = facts.start[before(fix)];
+    let first = facts.start[preceding(fix)];
     gather(query, facts, v, first, fix)
 }

@@ -5,36 +5,21 @@ use matching::Found;
 use query::Facts;
 use query::Node;
 use query::Query;
-use rewrite::nodes::before;
-use rewrite::nodes::node_at;
+use query::nodes::has_step;
+use query::nodes::node_at;
+use query::nodes::preceding;
 ghost use mathlib.Core.Path.{_≡_};
 ghost use Prim.Native.Nat.{_<_, _≤_};
 ghost use Rattle.query.specs.Lines.{nodeLimit};
 ghost use Rattle.rewrite.specs.Places.{StartsLow};
-ghost use Rattle.matching.specs.Found.{isFix, leftOf, overFix, filterFound, dropFound, joinFound, exceptFound, pairFound, foundAt};
-
-// Whether a line is a fix.
-fn is_fix(node: Node) -> bool
-    ensures { λ r. ⌜ r ≡ isFix node ⌝ }
-{
-    match node {
-        Node::Table(_) => false,
-        Node::Var(_) => false,
-        Node::Fact(_, _) => false,
-        Node::Pair(_) => false,
-        Node::Filter(_) => false,
-        Node::Copy(_, _) => false,
-        Node::Drop(_) => false,
-        Node::Fix(_) => true,
-    }
-}
+ghost use Rattle.matching.specs.Found.{leftOf, overFix, filterFound, dropFound, joinFound, exceptFound, pairFound, foundAt};
 
 // What is found over an operand, if that is a fix.
 fn over_fix(query: Query, operand: usize, found: Found) -> Found
     requires { ⌜ (operand < query .count) × (query .count ≤ nodeLimit) ⌝ }
     ensures { λ r. ⌜ r ≡ overFix query operand found ⌝ }
 {
-    if is_fix(node_at(query, operand)) {
+    if has_step(node_at(query, operand)) {
         found
     } else {
         Found::Nothing
@@ -46,7 +31,7 @@ fn left_of(facts: Facts, i: usize) -> usize
     requires { ⌜ i < nodeLimit ⌝ }
     ensures { λ r. ⌜ r ≡ leftOf facts i ⌝ }
 {
-    before(facts.start[before(i)])
+    preceding(facts.start[preceding(i)])
 }
 
 // 1. "Filter over fix"
@@ -57,7 +42,7 @@ fn filter_found(query: Query, kind: u32, i: usize, condition: Condition) -> Foun
     if kind != 1 {
         return Found::Nothing;
     }
-    let operand = before(i);
+    let operand = preceding(i);
     over_fix(query, operand, Found::FilterFix(condition, operand))
 }
 
@@ -69,7 +54,7 @@ fn drop_found(query: Query, kind: u32, i: usize, column: u32) -> Found
     if kind != 5 {
         return Found::Nothing;
     }
-    let operand = before(i);
+    let operand = preceding(i);
     over_fix(query, operand, Found::DropFix(column, operand))
 }
 
@@ -79,7 +64,7 @@ fn join_found(query: Query, facts: Facts, kind: u32, i: usize) -> Found
     ensures { λ r. ⌜ r ≡ joinFound query facts kind i ⌝ }
 {
     let left = left_of(facts, i);
-    let right = before(i);
+    let right = preceding(i);
     if kind == 2 {
         return over_fix(query, left, Found::FixJoin(left, right));
     }
@@ -102,7 +87,7 @@ fn except_found(query: Query, facts: Facts, kind: u32, i: usize) -> Found
         return Found::Nothing;
     }
     let left = left_of(facts, i);
-    over_fix(query, left, Found::FixExcept(left, before(i)))
+    over_fix(query, left, Found::FixExcept(left, preceding(i)))
 }
 
 fn pair_found(query: Query, facts: Facts, kind: u32, i: usize, pairing: Pairing) -> Found

@@ -6,10 +6,10 @@ use database::Verdict;
 use matching::Found;
 use query::Facts;
 use query::Query;
+use query::nodes::node_at;
+use query::nodes::preceding;
 use rewrite::Rewritten;
-use rewrite::nodes::before;
 use rewrite::nodes::fix_number;
-use rewrite::nodes::node_at;
 use rewrite::splice::exchange;
 use rewrite::splice::merge;
 ghost use mathlib.Core.Path.{_≡_};
@@ -25,7 +25,7 @@ fn moved(query: Query, facts: Facts, i: usize, fix: usize) -> Query
     requires { ⌜ (i < query .count) × (fix ≤ i) × (query .count ≤ nodeLimit) × StartsLow facts ⌝ }
     ensures { λ r. ⌜ r ≡ movedAt query facts i fix ⌝ }
 {
-    let step = facts.start[before(fix)];
+    let step = facts.start[preceding(fix)];
     exchange(query, step, fix + 1, i + 1)
 }
 
@@ -34,8 +34,8 @@ fn united(query: Query, facts: Facts, i: usize, left: usize, right: usize) -> Qu
     requires { ⌜ (i < query .count) × Fits facts i (Found.FixFix left right) × (query .count ≤ nodeLimit) × StartsLow facts ⌝ }
     ensures { λ r. ⌜ r ≡ mergedAt query facts i left right ⌝ }
 {
-    let step = facts.start[before(left)];
-    let right_step = facts.start[before(right)];
+    let step = facts.start[preceding(left)];
+    let right_step = facts.start[preceding(right)];
     let v = fix_number(node_at(query, left));
     let u = fix_number(node_at(query, right));
     merge(query, step, left, right_step, i, u, v)

@@ -11,7 +11,7 @@ use lib.Seq.{getD-take}
 use borrow.Author.Tests.{le-leb, lt-leb, leb-true, leb-false, lt-ltb, le-ltb, ltb-true, ltb-false, eq-eqb, ne-eqb}
 use Rattle.laws.specs.Lists.{if_then_else_, every, any, member}
 use Rattle.laws.proofs.Tests.{and-true-left, and-true-right}
-use Rattle.laws.proofs.Readers.{drop-next}
+use Rattle.laws.proofs.Fronts.{drop-next}
 use Rattle.row_reading.specs.declared.list_reader.Numbers.{Numbers}
 use Rattle.text.specs.Lines.{ascending, inRange, filled}
 use Rattle.row_reading.specs.NumberArrays.{listed, few, orEmpty}

@@ -12,8 +12,8 @@ use borrow.Author.Tests.{lt-ltb}
 use Rattle.laws.specs.Lists.{if_then_else_, null, any, member, all, sift, tabulate}
 use Rattle.laws.proofs.Tests.{true-false, same?, and-true}
 use Rattle.laws.proofs.Lists.{member-head, sift-append}
-use Rattle.laws.proofs.Faults.{member-append}
-use Rattle.laws.proofs.TextLists.{Each, each-map, each-append, each-of-member, both-true}
+use Rattle.laws.proofs.EmptyLists.{member-append}
+use Rattle.laws.proofs.EachMember.{Each, each-map, each-append, each-of-member, both-true}
 use Rattle.algebra.specs.Columns.{Cols}
 use Rattle.algebra.proofs.Narrow.{Below}
 use Rattle.text.specs.Lines.{ascending}

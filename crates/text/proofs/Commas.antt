@@ -7,7 +7,7 @@ use lib.Dec.{eqb}
 use borrow.Author.Tests.{eqb-true}
 use Rattle.laws.specs.Lists.{if_then_else_, null}
 use Rattle.laws.proofs.Tests.{true-false}
-use Rattle.laws.proofs.TextLists.{Each}
+use Rattle.laws.proofs.EachMember.{Each}
 use Rattle.text.specs.Numbers.{comma, intoFirst, parts}
 
 -- no byte of the list is b

@@ -7,7 +7,7 @@ use native.Mathlib.Nat.{le-trans}
 use lib.Dec.{lit≤}
 use lib.ListN.{length}
 use Rattle.laws.specs.Lists.{every}
-use Rattle.laws.proofs.TextLists.{Each}
+use Rattle.laws.proofs.EachMember.{Each}
 use Rattle.database.specs.declared.Refusal.the-variants.{DatabaseForm}
 use Rattle.database.specs.Stored.{tableLimit}
 use Rattle.database.specs.Refusals.{accepted}

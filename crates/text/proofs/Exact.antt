@@ -8,7 +8,7 @@ use native.Mathlib.Omega.{arith}
 use lib.ListN.{length}
 use Rattle.laws.specs.Lists.{null}
 use Rattle.laws.proofs.Tests.{true-false}
-use Rattle.laws.proofs.TextLists.{Each}
+use Rattle.laws.proofs.EachMember.{Each}
 use Rattle.database.specs.declared.Refusal.{Refusal}
 use Rattle.database.specs.Refusals.{Reply, refused, accepted, _>>=_}
 use Rattle.database.proofs.Replies.{accepted-refused, accepted-same}

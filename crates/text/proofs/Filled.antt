@@ -11,7 +11,7 @@ use lib.Seq.{getD-set-same, getD-set-other, ext-getD}
 use borrow.Author.Tests.{ltb-true, eqb-false, ne-eqb}
 use Rattle.laws.specs.Lists.{any, member, every}
 use Rattle.laws.proofs.Tests.{true-false, same?, or-false-left, or-false-right, and-true-right}
-use Rattle.laws.proofs.TextLists.{both-true}
+use Rattle.laws.proofs.EachMember.{both-true}
 use Rattle.relation.specs.Rows.{Row, slot}
 use Rattle.relation.specs.Shows.{Shaped}
 use Rattle.relation.proofs.Shapes.{zeros-shaped}

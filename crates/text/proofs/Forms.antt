@@ -10,7 +10,7 @@ use borrow.Author.Tests.{eqb-true}
 use Rattle.laws.specs.Lists.{if_then_else_, null, every}
 use Rattle.laws.proofs.Tests.{true-false, eqb-self, not-false}
 use Rattle.laws.proofs.Options.{some-inj, none-some}
-use Rattle.laws.proofs.TextLists.{each-map, each-append, every-each, Some, first, later, both-true, kept}
+use Rattle.laws.proofs.EachMember.{each-map, each-append, every-each, Some, first, later, both-true, kept}
 use Rattle.text.specs.Numbers.{bytes, newline, numbers, commaDigits}
 use Rattle.text.specs.Lines.{after, numbersAfter, Form, word, one, two, ifEmpty, ifOne, ifTwo, byForm, byForms, inRange}
 use Rattle.text.proofs.NumberLists.{AllSmall, comma-digits-without, numbers-digits, digits-numbers}

@@ -8,7 +8,7 @@ use lib.Dec.{T, ltb, lit<}
 use lib.ListN.{length, getD}
 use Rattle.laws.specs.Lists.{every}
 use Rattle.laws.proofs.Options.{some-inj, none-some}
-use Rattle.laws.proofs.TextLists.{Each, every-each, Some, some-at, some-map, some-out}
+use Rattle.laws.proofs.EachMember.{Each, every-each, Some, some-at, some-map, some-out}
 use Rattle.algebra.specs.declared.Pairing.the-variants.{Union, Join, Except}
 use Rattle.algebra.specs.declared.Condition.the-variants.{Eq, Ne, Max, Same}
 use Rattle.query.specs.declared.Node.{Node}

@@ -8,7 +8,7 @@ use lib.Dec.{eqb}
 use Rattle.laws.specs.Lists.{null}
 use Rattle.laws.proofs.Tests.{true-false}
 use Rattle.laws.proofs.Options.{some-inj, none-some}
-use Rattle.laws.proofs.TextLists.{Each, each-append}
+use Rattle.laws.proofs.EachMember.{Each, each-append}
 use Rattle.text.specs.Numbers.{comma, maxNumber, isDigit, number, digits, parts, readAll, numbers, commaDigits}
 use Rattle.text.proofs.Commas.{Without, joined, one-part, more-parts, parts-null, joined-parts}
 use Rattle.text.proofs.Numbers.{number-digits, digits-number, digits-without}

@@ -9,7 +9,7 @@ use lib.Dec.{leb, eqb}
 use borrow.Author.Tests.{leb-true, le-leb, ne-eqb}
 use Rattle.laws.specs.Lists.{every, null}
 use Rattle.laws.proofs.Tests.{true-false, not-false, and-true}
-use Rattle.laws.proofs.TextLists.{each-map, every-each, both-true, kept}
+use Rattle.laws.proofs.EachMember.{each-map, every-each, both-true, kept}
 use Rattle.text.specs.Numbers.{maxNumber, isDigit, valueFrom, isZero, number, digits}
 use Rattle.text.proofs.Commas.{Without}
 use Rattle.text.proofs.Digits.{digits-null, digits-digits, digits-value, no-leading-zero, digits-of-value}

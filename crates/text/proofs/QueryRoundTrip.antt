@@ -6,7 +6,7 @@ use Prim.Native.Nat.{ℕ, _≤_}
 use lib.Dec.{leb}
 use lib.ListN.{length}
 use borrow.Author.Tests.{leb-true, le-leb}
-use Rattle.laws.proofs.TextLists.{Each, both-true}
+use Rattle.laws.proofs.EachMember.{Each, both-true}
 use Rattle.database.specs.declared.Refusal.the-variants.{QueryForm, NodeCount}
 use Rattle.database.specs.Refusals.{accepted, require}
 use Rattle.database.proofs.Replies.{accepted-same}

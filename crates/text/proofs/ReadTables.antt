@@ -9,7 +9,7 @@ use borrow.Author.Tests.{ltb-true, le-leb, eq-eqb}
 use Rattle.laws.specs.Lists.{null, member, all, every}
 use Rattle.laws.proofs.Tests.{and-true}
 use Rattle.laws.proofs.Lists.{all-true}
-use Rattle.laws.proofs.TextLists.{Each, each-map, each-at, every-each, each-every}
+use Rattle.laws.proofs.EachMember.{Each, each-map, each-at, every-each, each-every}
 use Rattle.algebra.specs.Columns.{Cols}
 use Rattle.relation.specs.Rows.{Row, Rows, slot, absentZero, ascend}
 use Rattle.relation.specs.Shows.{Shaped}

@@ -14,7 +14,7 @@ use borrow.Author.Tests.{eq-eqb, ne-eqb, leb-true, leb-false}
 use Rattle.laws.specs.Lists.{if_then_else_}
 use Rattle.laws.specs.Options.{present}
 use Rattle.laws.proofs.Tests.{true-false, same?}
-use Rattle.laws.proofs.Readers.{drop-next, if-either}
+use Rattle.laws.proofs.Fronts.{drop-next, if-either}
 use Rattle.text.specs.Numbers.{newline, comma, intoFirst, parts}
 use Rattle.text.specs.Lines.{after, firstLine}
 use Rattle.text.specs.Readings.{before}

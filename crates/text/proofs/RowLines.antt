@@ -10,7 +10,7 @@ use borrow.Author.Tests.{eq-eqb, eqb-true}
 use Rattle.laws.specs.Lists.{every, member, null}
 use Rattle.laws.proofs.Options.{none-some}
 use Rattle.laws.proofs.Tests.{and-true}
-use Rattle.laws.proofs.TextLists.{both-true, kept}
+use Rattle.laws.proofs.EachMember.{both-true, kept}
 use Rattle.relation.specs.Rows.{Row, slot}
 use Rattle.relation.specs.Shows.{Shaped}
 use Rattle.text.specs.Numbers.{bytes, commaDigits}

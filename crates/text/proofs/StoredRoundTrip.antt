@@ -4,7 +4,7 @@ use mathlib.Core.Path.{_≡_, ap, sym, _∙_}
 use mathlib.Core.List.{List, _++_}
 use Prim.Native.Nat.{ℕ, _≤_, _<_}
 use lib.ListN.{take}
-use Rattle.laws.proofs.TextLists.{each-map}
+use Rattle.laws.proofs.EachMember.{each-map}
 use Rattle.database.specs.declared.Database.{Database}
 use Rattle.database.specs.Refusals.{accepted}
 use Rattle.database.specs.Stored.{schema, tableStart, tableRows, checkDatabase}

@@ -11,8 +11,8 @@ use lib.Seq.{take-add}
 use borrow.Author.Tests.{leb-true, lt-ltb, le-ltb}
 use Rattle.laws.specs.Lists.{member, all, every, tabulate}
 use Rattle.laws.proofs.Tests.{not-false}
-use Rattle.laws.proofs.RowLists.{length-tabulate, getD-tabulate}
-use Rattle.laws.proofs.TextLists.{Each, each-map, each-both, each-tabulate, each-every, both-true, flatMap-append}
+use Rattle.laws.proofs.Tabulated.{length-tabulate, getD-tabulate}
+use Rattle.laws.proofs.EachMember.{Each, each-map, each-both, each-tabulate, each-every, both-true, flatMap-append}
 use Rattle.algebra.specs.Columns.{Cols}
 use Rattle.relation.specs.Rows.{Row, Rows, slot, In, here, there, rowsOf, entries, absentZero, ascend}
 use Rattle.relation.specs.Shows.{Shaped}

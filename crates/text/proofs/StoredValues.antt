@@ -8,8 +8,8 @@ use lib.ListN.{length, getD, take, drop, length-append, length-map, List·getD-a
 use lib.Seq.{take-suc, split-at, drop-at, ext-getD}
 use borrow.Author.Tests.{lt-ltb}
 use Rattle.laws.specs.Lists.{member}
-use Rattle.laws.proofs.RowLists.{length-tabulate, getD-tabulate}
-use Rattle.laws.proofs.TextLists.{Each, each-at, each-of-member, getD-map, flatMap-append}
+use Rattle.laws.proofs.Tabulated.{length-tabulate, getD-tabulate}
+use Rattle.laws.proofs.EachMember.{Each, each-at, each-of-member, getD-map, flatMap-append}
 use Rattle.algebra.specs.Columns.{Cols}
 use Rattle.relation.specs.Rows.{colsOf, columnsOf, rowsOf, entries}
 use Rattle.relation.proofs.ColumnsRound.{columns-round}

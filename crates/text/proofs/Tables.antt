@@ -9,7 +9,7 @@ use lib.Dec.{lit≤}
 use lib.ListN.{length}
 use Rattle.laws.specs.Lists.{every}
 use Rattle.laws.proofs.Tests.{and-true}
-use Rattle.laws.proofs.TextLists.{Each, both-true}
+use Rattle.laws.proofs.EachMember.{Each, both-true}
 use Rattle.relation.specs.Rows.{Row, Rows, slot, ascend}
 use Rattle.database.specs.declared.Refusal.the-variants.{DatabaseForm}
 use Rattle.database.specs.Stored.{rowsLimit}

@@ -5,7 +5,7 @@ use mathlib.Core.List.{List}
 use mathlib.Core.Logic.{_↔_}
 use Prim.Native.Nat.{ℕ, _≤_}
 use lib.ListN.{length}
-use Rattle.laws.proofs.TextLists.{Each}
+use Rattle.laws.proofs.EachMember.{Each}
 use Rattle.database.specs.Stored.{tableLimit}
 use Rattle.database.specs.Refusals.{accepted}
 use Rattle.query.specs.declared.Node.{Node}

@@ -9,8 +9,8 @@ use lib.Dec.{ltb}
 use lib.ListN.{getD}
 use Rattle.laws.specs.Lists.{if_then_else_, null, sift, tabulate}
 use Rattle.laws.proofs.Lists.{sift-append}
-use Rattle.laws.proofs.RowLists.{getD-tabulate}
-use Rattle.laws.proofs.TextLists.{Each, each-map}
+use Rattle.laws.proofs.Tabulated.{getD-tabulate}
+use Rattle.laws.proofs.EachMember.{Each, each-map}
 use Rattle.algebra.specs.Columns.{Cols}
 use Rattle.relation.specs.declared.Columns.{Columns}
 use Rattle.relation.specs.Rows.{colsOf}

@@ -7,8 +7,8 @@ use native.Mathlib.Nat.{zero-add, suc-add, mul-suc, mul-zero}
 use native.Mathlib.Decide.{decLe}
 use lib.ListN.{length, take, drop, getD, length-drop, drop-of-length-le}
 use lib.Seq.{take-all, getD-take, drop-drop}
-use Rattle.laws.proofs.TextLists.{flatMap-append}
-use Rattle.laws.proofs.Writers.{flatMap-snoc}
+use Rattle.laws.proofs.EachMember.{flatMap-append}
+use Rattle.laws.proofs.FlatMaps.{flatMap-snoc}
 use Rattle.algebra.specs.Columns.{Cols}
 use Rattle.relation.specs.Rows.{Row, slot, rowsOf}
 use Rattle.text.specs.Texts.{columnList}

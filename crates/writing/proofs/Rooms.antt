@@ -11,8 +11,8 @@ use native.Mathlib.Decide.{decLt}
 use lib.ListN.{length, take, drop, getD, length-append, length-take, length-map, List·getD-eq-default}
 use lib.Seq.{getD-take, getD-drop}
 use Rattle.laws.specs.Lists.{if_then_else_, sift, tabulate}
-use Rattle.laws.proofs.RowLists.{length-tabulate}
-use Rattle.laws.proofs.TextLists.{Each, each-map}
+use Rattle.laws.proofs.Tabulated.{length-tabulate}
+use Rattle.laws.proofs.EachMember.{Each, each-map}
 use Rattle.algebra.specs.Columns.{Cols}
 use Rattle.relation.specs.declared.Columns.{Columns}
 use Rattle.relation.specs.Rows.{Row, Rows, slot, colsOf, rowsOf}

@@ -6,7 +6,7 @@ use mathlib.Core.Path.{_≡_, ap, sym, _∙_}
 use mathlib.Core.List.{flatMap}
 use lib.ListN.{length, take}
 use lib.Seq.{take-all}
-use Rattle.laws.proofs.Writers.{flatMap-none}
+use Rattle.laws.proofs.FlatMaps.{flatMap-none}
 use Rattle.query.specs.Lines.{nodes, nodeLimit}
 use Rattle.query.proofs.Lengths.{query-length}
 use Rattle.text.specs.Lines.{nodeText}

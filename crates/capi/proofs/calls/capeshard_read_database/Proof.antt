@@ -6,7 +6,7 @@ use mathlib.Core.Path.{_≡_, refl, ap, sym, _∙_}
 use mathlib.Core.List.{List, [], _++_}
 use denote.Ref.{now}
 use lib.ListN.{length, drop}
-use Rattle.laws.proofs.Writers.{flatMap-none}
+use Rattle.laws.proofs.FlatMaps.{flatMap-none}
 use Rattle.relation.specs.Rows.{columns, entries}
 use Rattle.database.specs.declared.Refusal.the-variants.{ShortSlice}
 use Rattle.database.specs.Refusals.{Reply, refused, verdict, _>>=_}

@@ -13,8 +13,8 @@ use Rattle.query.specs.declared.Node.{Node}
 use Rattle.query.specs.declared.Node.the-variants.{Table}
 use Rattle.query.specs.Lines.{nodeLimit, nodes}
 use Rattle.query.specs.Facts.{Visit}
+use Rattle.query.specs.Shape.{hasStep}
 use Rattle.query.specs.Passes.{visitsOf, visitAt}
-use Rattle.checking.specs.NodeColumns.{hasStep}
 use Rattle.query.proofs.Contexts.{context}
 use Rattle.query.proofs.ShapedNodes.{start-low, visits-count}
 use Rattle.checking.proofs.ColumnNodes.{variable-first, variable-more, variable-found}

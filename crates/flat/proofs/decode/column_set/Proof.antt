@@ -12,7 +12,7 @@ use lib.ListN.{length}
 use lib.Dec.{eqb}
 use Rattle.laws.specs.Lists.{if_then_else_}
 use Rattle.laws.proofs.Indexed.{Written, written-none, written-more, written-all}
-use Rattle.laws.proofs.RowLists.{length-tabulate}
+use Rattle.laws.proofs.Tabulated.{length-tabulate}
 use Rattle.algebra.specs.Columns.{noCols}
 use Rattle.relation.specs.declared.Columns.{Columns}
 use Rattle.relation.specs.Rows.{columns, columnsOf}

@@ -8,7 +8,7 @@ use mathlib.Core.List.{List, [], _∷_}
 use denote.Ref.{now}
 use lib.ListN.{length, getD, set, length-set}
 use lib.Seq.{sets}
-use Rattle.laws.proofs.RowLists.{length-tabulate, getD-tabulate}
+use Rattle.laws.proofs.Tabulated.{length-tabulate, getD-tabulate}
 use Rattle.relation.specs.Rows.{columns, columnsOf}
 use Rattle.database.specs.declared.Database.{Database}
 use Rattle.database.specs.Stored.{tableLimit, tableCols}

@@ -4,7 +4,7 @@ use mathlib.Core.Bool.{Bool}
 use lib.ListN.{drop}
 use denote.Ref.{now}
 use Rattle.laws.specs.Lists.{null}
-use Rattle.laws.proofs.Readers.{null-drop, more-drop}
+use Rattle.laws.proofs.Fronts.{null-drop, more-drop}
 use Rattle.database.specs.declared.Refusal.the-variants.{DatabaseForm}
 use Rattle.database.specs.Refusals.{require}
 use Rattle.loading.specs.declared.database_reader.ReadText.{ReadText}

@@ -6,7 +6,7 @@ use mathlib.Core.Path.{_≡_, ap, _∙_}
 use mathlib.Core.Bool.{false}
 use lib.ListN.{length}
 use Rattle.laws.specs.Lists.{member}
-use Rattle.laws.proofs.RowLists.{length-tabulate}
+use Rattle.laws.proofs.Tabulated.{length-tabulate}
 use Rattle.laws.proofs.Indexed.{Written, written-none, written-more, written-all}
 use Rattle.algebra.specs.Columns.{noCols}
 use Rattle.relation.specs.declared.Columns.{Columns}

@@ -14,7 +14,7 @@ use Rattle.rewrite.proofs.path.beside.Tie as tie
 operand-requires : tie.Need-operand-requires
 operand-requires c κs =
     let s = c .before .before .before in
-    omega (arith, s .pre .1 (c .before .before .before2 .result))
+    omega (arith, s .pre .1 (c .before .before .preceding .result))
 
 -- the operands by their places
 placed : (facts : Facts) (v i left right : ℕ) → right ≡ i - 1 → left ≡ startAt facts right - 1
@@ -30,7 +30,7 @@ returns c =
     let a = s .args in
     c .both .ensures
     ∙ ap₂ (λ (D E : Cols). columnsOf columns (both D E)) (o .operand .ensures) (c .before .operand2 .ensures)
-    ∙ ap (columnsOf columns) (placed (a .t1) (a .v) (a .i) _ _ (o .before .before .before .before2 .ensures) (o .before .before3 .ensures))
+    ∙ ap (columnsOf columns) (placed (a .t1) (a .v) (a .i) _ _ (o .before .before .before .preceding .ensures) (o .before .preceding2 .ensures))
 
 pub beside-spec : {M : Type 1} → statement M
 beside-spec =

@@ -11,7 +11,7 @@ use Rattle.rewrite.proofs.path.path.Tie as tie
 gather-requires : tie.Need-gather-requires
 gather-requires c κs =
     let low = c .before .before .before .before .pre .2 in
-    (omega (arith, low (c .before .before2 .result)), omega arith, omega arith, low)
+    (omega (arith, low (c .before .preceding .result)), omega arith, omega arith, low)
 
 returns : tie.Need-returns
 returns c =
@@ -20,7 +20,7 @@ returns c =
     let a = f .before .before .args in
     c .gather .ensures
     ∙ ap₂ (λ (v k : ℕ). gathered (a .query) (a .t2) v (startAt (a .t2) k) (a .fix - startAt (a .t2) k))
-    (f .fix-number .ensures ∙ ap fixNumber (f .before .node-at .ensures)) (b .before2 .ensures)
+    (f .fix-number .ensures ∙ ap fixNumber (f .before .node-at .ensures)) (b .preceding .ensures)
 
 pub path-spec : {M : Type 1} → statement M
 path-spec =

@@ -26,7 +26,7 @@ returns-2 c =
     let b = c .before in
     let l = b .before in
     let a = l .before .before .args in
-    c .over-fix .ensures ∙ ap₂ (λ (x y : ℕ). overFix (a .query) x (FixExcept x y)) (l .left-of .ensures) (b .before2 .ensures)
+    c .over-fix .ensures ∙ ap₂ (λ (x y : ℕ). overFix (a .query) x (FixExcept x y)) (l .left-of .ensures) (b .preceding .ensures)
     ∙ ap (pick _) (sym (eq-eqb (a .kind) 4 (l .before .if1 .left)))
 
 pub except-found-spec : {M : Type 1} → statement M

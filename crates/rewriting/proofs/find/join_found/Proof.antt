@@ -39,7 +39,7 @@ returns c =
     let b = c .before .before in
     let l = b .before in
     let a = l .before .args in
-    c .over-fix .ensures ∙ ap₂ (λ (x y : ℕ). overFix (a .query) x (FixJoin x y)) (l .left-of .ensures) (b .before2 .ensures)
+    c .over-fix .ensures ∙ ap₂ (λ (x y : ℕ). overFix (a .query) x (FixJoin x y)) (l .left-of .ensures) (b .preceding .ensures)
     ∙ kind-two (a .query) (a .facts) (a .kind) (a .i) (c .before .if1 .taken)
 
 returns-2 : tie.Need-returns-2
@@ -47,7 +47,7 @@ returns-2 c =
     let b = c .before .before .before in
     let l = b .before in
     let a = l .before .args in
-    c .over-fix2 .ensures ∙ ap₂ (λ (x y : ℕ). overFix (a .query) y (JoinFix x y)) (l .left-of .ensures) (b .before2 .ensures)
+    c .over-fix2 .ensures ∙ ap₂ (λ (x y : ℕ). overFix (a .query) y (JoinFix x y)) (l .left-of .ensures) (b .preceding .ensures)
     ∙ kind-three (a .query) (a .facts) (a .kind) (a .i) (c .before .before .if1 .left) (c .before .if2 .taken)
 
 over-fix-requires-4 : tie.Need-over-fix-requires-4
@@ -63,7 +63,7 @@ returns-3 c =
     let l = b .before in
     let a = l .before .args in
     c .over-fix4 .ensures ∙ ap (overFix (a .query) (l .left-of .result)) (c .before .over-fix3 .ensures)
-    ∙ ap₂ (λ (x y : ℕ). overFix (a .query) x (overFix (a .query) y (FixFix x y))) (l .left-of .ensures) (b .before2 .ensures)
+    ∙ ap₂ (λ (x y : ℕ). overFix (a .query) x (overFix (a .query) y (FixFix x y))) (l .left-of .ensures) (b .preceding .ensures)
     ∙ kind-six (a .query) (a .facts) (a .kind) (a .i) (t .before .before .if1 .left) (t .before .if2 .left) (t .if3 .taken)
 
 returns-4 : tie.Need-returns-4

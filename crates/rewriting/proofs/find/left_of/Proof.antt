@@ -9,7 +9,7 @@ use Rattle.rewriting.proofs.find.left_of.Tie as tie
 returns : tie.Need-returns
 returns c =
     let b = c .before .before in
-    c .before3 .ensures ∙ ap (λ (k : ℕ). startAt (b .before .args .t1) k - 1) (b .before2 .ensures)
+    c .preceding2 .ensures ∙ ap (λ (k : ℕ). startAt (b .before .args .t1) k - 1) (b .preceding .ensures)
 
 pub left-of-spec : {M : Type 1} → statement M
 left-of-spec = tie.close (tie.spec (λ c κs. search needs) (λ c. search needs) (λ c. search needs) (λ c κs. search needs) returns)

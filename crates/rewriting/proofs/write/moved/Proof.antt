@@ -12,7 +12,7 @@ exchange-requires : tie.Need-exchange-requires
 exchange-requires c κs =
     let b = c .before in
     let s = b .before in
-    let low = s .pre .3 (b .before2 .result) in
+    let low = s .pre .3 (b .preceding .result) in
     (omega arith, omega arith, omega arith)
 
 returns : tie.Need-returns
@@ -20,7 +20,7 @@ returns c =
     let b = c .before .before in
     let a = b .before .args in
     c .exchange .ensures
-    ∙ ap (λ (k : ℕ). withLines (a .query) (exchanged (startAt (a .t2) k) (a .fix + 1) (a .i + 1) (a .query .lines))) (b .before2 .ensures)
+    ∙ ap (λ (k : ℕ). withLines (a .query) (exchanged (startAt (a .t2) k) (a .fix + 1) (a .i + 1) (a .query .lines))) (b .preceding .ensures)
 
 pub moved-spec : {M : Type 1} → statement M
 moved-spec =

@@ -16,9 +16,9 @@ merge-requires c κs =
     let b = r .before .before in
     let s = b .before in
     let a = s .args in
-    let low = s .pre .3 (b .before2 .result) in
-    let at : startAt (a .t2) (r .before3 .result) ≡ startAt (a .t2) (a .right - 1) = ap (startAt (a .t2)) (r .before3 .ensures) in
-    let e = b .before2 .ensures in
+    let low = s .pre .3 (b .preceding .result) in
+    let at : startAt (a .t2) (r .preceding2 .result) ≡ startAt (a .t2) (a .right - 1) = ap (startAt (a .t2)) (r .preceding2 .ensures) in
+    let e = b .preceding .ensures in
     let p = s .pre in
     let f = p .1 in
     (omega arith, omega arith, omega arith, omega arith)
@@ -40,7 +40,7 @@ returns c =
     let b = r .before .before in
     let a = b .before .args in
     c .merge .ensures
-    ∙ same (a .query) (a .t2) (a .i) (a .left) (a .right) (b .before2 .ensures) (r .before3 .ensures)
+    ∙ same (a .query) (a .t2) (a .i) (a .left) (a .right) (b .preceding .ensures) (r .preceding2 .ensures)
     (fy .fix-number2 .ensures ∙ ap fixNumber (ny .node-at2 .ensures)) (fx .fix-number .ensures ∙ ap fixNumber (nx .node-at .ensures))
 
 pub united-spec : {M : Type 1} → statement M

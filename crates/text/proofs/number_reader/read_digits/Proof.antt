@@ -9,7 +9,7 @@ use mathlib.Core.Option.{Option, some, none}
 use mathlib.Core.List.{List, [], _∷_}
 use lib.ListN.{length, drop, getD, drop-of-length-le}
 use denote.Ref.{now}
-use Rattle.laws.proofs.Readers.{drop-next}
+use Rattle.laws.proofs.Fronts.{drop-next}
 use Rattle.text.specs.Numbers.{maxNumber, isDigit}
 use Rattle.text.specs.Readings.{numberReply, valueIn}
 use Rattle.text.proofs.ReaderLawsNumbers.{value-all, value-more, value-bad, value-over}

@@ -5,7 +5,7 @@ use mathlib.Core.Path.{_≡_, refl, ap, sym, _∙_}
 use lib.ListN.{set}
 use Rattle.laws.specs.Lists.{tabulate}
 use Rattle.laws.proofs.Passes.{filled}
-use Rattle.laws.proofs.Writers.{filled-tabulate, filled-tabulate-more}
+use Rattle.laws.proofs.FlatMaps.{filled-tabulate, filled-tabulate-more}
 use Rattle.relation.specs.Rows.{columns as width}
 use Rattle.writing.proofs.answers.column_numbers.Statement.{statement}
 use Rattle.writing.proofs.answers.column_numbers.Tie as tie

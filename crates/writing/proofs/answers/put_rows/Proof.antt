@@ -5,7 +5,7 @@ use Prim.Native.Nat.{ℕ, min, _≤_, _-_, _*_}
 use mathlib.Core.Path.{_≡_, refl, ap, sym, _∙_}
 use mathlib.Core.List.{List, _++_, map, flatMap}
 use lib.ListN.{length}
-use Rattle.laws.proofs.Writers.{flatMap-none}
+use Rattle.laws.proofs.FlatMaps.{flatMap-none}
 use Rattle.relation.specs.declared.Columns.{Columns}
 use Rattle.relation.specs.Rows.{columns as width, Row, slot, colsOf, rowsOf}
 use Rattle.text.specs.Numbers.{bytes, commaDigits}

@@ -9,7 +9,7 @@ use lib.Dec.{eqb}
 use lib.ListN.{length, getD}
 use Rattle.laws.specs.Lists.{if_then_else_, _==_, null, any, member, sift}
 use Rattle.laws.proofs.Tests.{true-false, same?}
-use Rattle.laws.proofs.TextLists.{Each, each-map, each-append}
+use Rattle.laws.proofs.EachMember.{Each, each-map, each-append}
 
 pub true-or-false : (b : Bool) → (b ≡ true) ⊎ (b ≡ false)
 true-or-false true = inl refl

@@ -7,9 +7,9 @@ use native.Mathlib.Numerals.{add-one}
 use lib.ListN.{length, take, getD, set, replicate}
 use lib.Seq.{take-suc}
 use Rattle.laws.specs.Lists.{tabulate}
-use Rattle.laws.proofs.RowLists.{length-tabulate}
+use Rattle.laws.proofs.Tabulated.{length-tabulate}
 use Rattle.laws.proofs.Passes.{filled, filled-more}
-use Rattle.laws.proofs.TextLists.{flatMap-append}
+use Rattle.laws.proofs.EachMember.{flatMap-append}
 
 module _ {A B : Type 0} (f : A → List B) where
   pub flatMap-none : flatMap f [] ≡ []
