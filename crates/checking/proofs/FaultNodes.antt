@@ -29,12 +29,12 @@ use Rattle.query.specs.Check.{unless, sameCols, sidesOk}
 use Rattle.query.specs.Facts.{Visit}
 use Rattle.query.specs.Shape.{root, Shaped, Formed}
 use Rattle.query.specs.Passes.{visitsOf, visitAt, columnFaults, secondAt}
-use Rattle.checking.specs.NodeColumns.{nodeColumns, columnSets}
+use Rattle.node_columns.specs.NodeColumns.{nodeColumns, columnSets}
 use Rattle.query.proofs.Starts.{size-pos}
 use Rattle.query.proofs.Operands.{lastOf, firstOf, Under}
 use Rattle.query.proofs.ShapedNodes.{visits-count, line-at, shaped-node, whole-last, whole-first}
 use Rattle.query.proofs.ScopeNodes.{OnForm, one-formed, node-formed}
-use Rattle.checking.proofs.ColumnNodes.{columns-at}
+use Rattle.node_columns.proofs.ColumnNodes.{columns-at}
 
 -- 9 and 10 as the code has them: the line, the book's tables, the columns of the operands
 abbrev pub faultOf : Node → ℕ → Columns → Columns → ℕ → Reply (Unit {0})

@@ -1,3 +1,2 @@
-pub mod ColumnNodes
 pub mod FaultNodes
 pub mod StageReplies

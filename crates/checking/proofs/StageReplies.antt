@@ -30,7 +30,7 @@ use Rattle.query.proofs.FormNodes.{nodes-formed, form-accepted}
 use Rattle.query.proofs.Visits.{visits-starts}
 use Rattle.query.proofs.ShapedNodes.{nodes-are}
 use Rattle.query.proofs.PassLoops.{first-of-faults}
-use Rattle.checking.specs.NodeColumns.{columnSets}
+use Rattle.node_columns.specs.NodeColumns.{columnSets}
 use Rattle.checking.specs.CheckStages.{checkTerm}
 
 abbrev value : Verdict → List ℕ → List Variables → List Columns → CheckedQuery

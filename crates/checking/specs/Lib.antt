@@ -1,2 +1,1 @@
-pub mod NodeColumns
 pub mod CheckStages

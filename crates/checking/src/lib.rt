@@ -1,5 +1,4 @@
 // Document 01's "Checking": a query over a database.
-mod node_columns; // node_columns.rt: the columns of each node
 mod second_pass; // second_pass.rt: 9 and 10
 mod stages; // stages.rt: the check, one stage after the other
 

@@ -26,7 +26,7 @@ ghost use Rattle.database.specs.Refusals.{verdict, noFault};
 ghost use Rattle.query.specs.Check.{sidesOk};
 ghost use Rattle.query.specs.Shape.{Shaped, Formed};
 ghost use Rattle.query.specs.Passes.{visitsOf, visitAt, secondAt, secondVerdict};
-ghost use Rattle.checking.specs.NodeColumns.{columnSets};
+ghost use Rattle.node_columns.specs.NodeColumns.{columnSets};
 
 // Whether the sides of a pair may have these columns.
 fn sides_agree(pairing: Pairing, left: Columns, right: Columns) -> bool

@@ -1,11 +1,11 @@
 // Document 01's "Checking": 11 for the database; 2, then 1, 3, 4 to 8, and 9 and 10 for the query; what it tells of each node of a query that it accepts.
-use super::node_columns::column_sets;
 use super::second_pass::second_pass;
 use column_sets::no_columns;
 use database::Database;
 use database::Refusal;
 use database::Verdict;
 use database::check_database;
+use node_columns::column_sets;
 use query::CheckedQuery;
 use query::Facts;
 use query::NODES;

@@ -2,4 +2,3 @@ pub mod Blocks
 pub mod FlatQueries
 pub mod BitSets
 pub mod RoundTrip
-pub mod FlatPlans

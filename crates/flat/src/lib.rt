@@ -14,8 +14,7 @@
 //
 // A verdict is 0 if it accepts, else the refusal's number times 2^32 and its place; a place over 4,294,967,295 is given as that.
 mod decode; // decode.rt: from flat slices to values
-mod encode; // encode.rt: from values to flat slices
-mod plans; // plans.rt: plans in flat slices
+pub mod encode; // encode.rt: from values to flat slices
 
 use database::TABLES;
 pub use decode::decode_database;
@@ -27,7 +26,6 @@ pub use encode::encode_run;
 pub use encode::outcome_status;
 pub use encode::short_slice;
 pub use encode::status;
-pub use plans::encode_plan;
 use query::NODES;
 
 pub const LINE_ENTRIES: usize = 3;

@@ -1,2 +1,1 @@
-pub mod ReaderLawsNodes
 pub mod ReaderLawsQuery

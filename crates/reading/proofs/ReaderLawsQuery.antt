@@ -20,13 +20,13 @@ use Rattle.query.specs.declared.Query.{Query}
 use Rattle.query.specs.Lines.{line, blank, nodeLimit}
 use Rattle.text.specs.declared.line_reader.Cursor.{Cursor}
 use Rattle.text.specs.declared.line_reader.Opened.{Opened}
-use Rattle.reading.specs.declared.node_reader.DueNode.the-variants as node
+use Rattle.node_reading.specs.declared.DueNode.the-variants as node
 use Rattle.text.specs.Numbers.{bytes, maxNumber}
 use Rattle.text.specs.Lines.{Rest, due, many, ended, whole, headerLine, countLine, nodeLine}
 use Rattle.text.specs.Texts.{readNodes, queryValue}
 use Rattle.text.specs.Replies.{queryReply}
 use Rattle.text.specs.Cursors.{restAt, Placed, dueLine, openedAt}
-use Rattle.reading.specs.NodeReading.{nodeDue}
+use Rattle.node_reading.specs.NodeReading.{nodeDue}
 use Rattle.reading.specs.QueryReading.{stored, endTest, queryOr, endReply, lineNodes}
 use Rattle.text.proofs.Exact.{many-again}
 use Rattle.text.proofs.ReaderLawsDue.{dueReply, due-reply, due-placed, opening, behindOpened, opening-reply}

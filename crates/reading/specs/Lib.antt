@@ -1,2 +1,1 @@
 pub mod QueryReading
-pub mod NodeReading

@@ -1,5 +1,4 @@
 // Reading a sheet's text and the lines of a steps file.
-mod node_reader;
 mod query_reader;
 mod step_reader;
 

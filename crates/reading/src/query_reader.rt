@@ -1,8 +1,8 @@
 // Reading a sheet's text: "number 1 names the first bad line … and comes before 2".
-use super::node_reader::DueNode;
-use super::node_reader::due_node;
 use database::Refusal;
 use database::Verdict;
+use node_reading::DueNode;
+use node_reading::due_node;
 use query::Line;
 use query::NODES;
 use query::Node;

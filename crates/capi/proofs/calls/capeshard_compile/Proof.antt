@@ -16,7 +16,7 @@ use Rattle.compiling.specs.declared.Compiled.{Compiled}
 use Rattle.compiling.specs.Compiled.{slotsOf}
 use Rattle.flat.specs.Flat.{flatSlots, planSlots, over, planRoom}
 use Rattle.capi.specs.Calls.{roomFor, withRoom}
-use Rattle.flat.proofs.FlatPlans.{compiled-slots}
+use Rattle.flat_plans.proofs.FlatPlans.{compiled-slots}
 use Rattle.capi.proofs.Replies.{says-short, says-refused, says-accepted}
 use Rattle.capi.proofs.Rooms.{Roomy, lacks, has, short-either, short-third, all-roomy}
 use Rattle.capi.proofs.calls.capeshard_compile.Statement.{statement}
