@@ -73,6 +73,37 @@ def contracts_and_definitions_cite_no_proof():
     return bad
 
 
+def the_definitions_to_believe_are_all():
+    """The public contracts, and the definition files that the README lists, cite only such files and the declared types."""
+    readme = (TOP / "README.md").read_text()
+    listed = set()
+    for crate, words in re.findall(r"`(\w+)/specs`: ([^;\n]*)", readme.split("### The definitions to believe")[1].split("\n## ")[0]):
+        files = {path.stem for path in (TOP / "crates" / crate / "specs").glob("*.antt")}
+        listed |= {(crate, name) for name in (files if words.strip() == "all" else files & set(re.findall(r"`(\w+)`", words)))}
+    texts = [(f"crates/{crate}/specs/{name}.antt", (TOP / "crates" / crate / "specs" / f"{name}.antt").read_text()) for crate, name in sorted(listed)]
+    for functions, crate in re.findall(r"^\| (`[^|]*`) \| `(\w+)` \|", readme.split("## The public functions")[1].split("\n## ")[0], re.M):
+        for function in re.findall(r"`(\w+)`", functions):
+            texts.append((f"the contract of {function}", public_citations(crate, function)))
+    return [
+        f"{name} cites {crate}/specs/{file}"
+        for name, text in texts
+        for crate, file in re.findall(r"^use Rattle·(\w+?)(?:·specs\.specs|\.specs)\.(\w+)", text, re.M)
+        if file != "declared" and (crate, file) not in listed
+    ]
+
+
+def public_citations(crate, function):
+    """The imports whose names a public function's contract uses. A function that isn't there cites what is never listed."""
+    for path in sorted((TOP / "crates" / crate / "src").glob("*.rt")):
+        text = path.read_text()
+        stated = re.search(rf'^pub (?:extern "C" )?fn {function}\((.*?)\n\{{\n', text, re.S | re.M)
+        if stated:
+            uses = re.findall(r"^ghost (use \S+?\.\{([^}]*)\});", text, re.M)
+            words = set(re.findall(r"[\w·]+", stated.group(1)))
+            return "\n".join(line for line, names in uses if words & {name.strip() for name in names.split(",")})
+    return f"use Rattle.{crate}.specs.{function}"
+
+
 def the_pages_name_files_that_are_there():
     bad = []
     for page in [TOP / "README.md", *sorted((TOP / "docs").glob("*.md"))]:
@@ -177,6 +208,7 @@ def shows(part, text):
 TESTS = [
     the_pages_show_the_cases,
     the_pages_name_files_that_are_there,
+    the_definitions_to_believe_are_all,
     contracts_and_definitions_cite_no_proof,
     every_crate_is_in_the_readme,
     the_width_stands_once,
