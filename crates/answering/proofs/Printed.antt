@@ -24,7 +24,7 @@ use Rattle.machine.specs.declared.Outcome.the-variants as outcome
 use Rattle.machine.specs.declared.Ran.{Ran}
 use Rattle.machine.specs.Run.{Answer, ranOf}
 use Rattle.run.proofs.Meaning.{Ended, ran-refused}
-use Rattle.answering.specs.Answer.{limits, replyText, answer}
+use Rattle.answering.specs.Answer.{limits, taken, replyText, answer}
 use Rattle.answering.specs.Stages.{causeOf, outcomeCause, answerBook, Writes}
 
 -- what `write_refusal` promises
@@ -77,25 +77,25 @@ module _ {before after : List ℕ} {w : Written} where
 
 -- "8,192 bytes a file (else 17)"
 module _ (sheet book steps : List ℕ) where
-  over : (x y z : Bool) → (x && y && z ≡ false) → leb (length sheet) (limits .bytes) ≡ x → leb (length book) (limits .bytes) ≡ y → leb (length steps) (limits .bytes) ≡ z
+  over : (x y z : Bool) → (x && y && z ≡ false) → leb (length sheet) (taken .bytes) ≡ x → leb (length book) (taken .bytes) ≡ y → leb (length steps) (taken .bytes) ≡ z
       → answer sheet book steps ≡ refused ShortSlice
   unfolding answer
   over x y z e f g h = rw (answer, f, g, h, e)
 
-  pub long-sheet : limits .bytes < length sheet → answer sheet book steps ≡ refused ShortSlice
-  long-sheet h = over false (leb (length book) (limits .bytes)) (leb (length steps) (limits .bytes)) refl (lt-leb (length sheet) (limits .bytes) h) refl refl
+  pub long-sheet : taken .bytes < length sheet → answer sheet book steps ≡ refused ShortSlice
+  long-sheet h = over false (leb (length book) (taken .bytes)) (leb (length steps) (taken .bytes)) refl (lt-leb (length sheet) (taken .bytes) h) refl refl
 
-  pub long-book : limits .bytes < length book → answer sheet book steps ≡ refused ShortSlice
-  long-book h = by-test (leb (length sheet) (limits .bytes)) refl
+  pub long-book : taken .bytes < length book → answer sheet book steps ≡ refused ShortSlice
+  long-book h = by-test (leb (length sheet) (taken .bytes)) refl
     where
-      by-test : (x : Bool) → leb (length sheet) (limits .bytes) ≡ x → answer sheet book steps ≡ refused ShortSlice
-      by-test true e = over true false (leb (length steps) (limits .bytes)) refl e (lt-leb (length book) (limits .bytes) h) refl
-      by-test false e = over false false (leb (length steps) (limits .bytes)) refl e (lt-leb (length book) (limits .bytes) h) refl
+      by-test : (x : Bool) → leb (length sheet) (taken .bytes) ≡ x → answer sheet book steps ≡ refused ShortSlice
+      by-test true e = over true false (leb (length steps) (taken .bytes)) refl e (lt-leb (length book) (taken .bytes) h) refl
+      by-test false e = over false false (leb (length steps) (taken .bytes)) refl e (lt-leb (length book) (taken .bytes) h) refl
 
-  pub long-steps : length sheet ≤ limits .bytes → length book ≤ limits .bytes → limits .bytes < length steps → answer sheet book steps ≡ refused ShortSlice
-  long-steps f g h = over true true false refl (le-leb (length sheet) (limits .bytes) f) (le-leb (length book) (limits .bytes) g) (lt-leb (length steps) (limits .bytes) h)
+  pub long-steps : length sheet ≤ taken .bytes → length book ≤ taken .bytes → taken .bytes < length steps → answer sheet book steps ≡ refused ShortSlice
+  long-steps f g h = over true true false refl (le-leb (length sheet) (taken .bytes) f) (le-leb (length book) (taken .bytes) g) (lt-leb (length steps) (taken .bytes) h)
 
-  pub short-files : length sheet ≤ limits .bytes → length book ≤ limits .bytes → length steps ≤ limits .bytes → answer sheet book steps ≡ answerBook sheet book steps
+  pub short-files : length sheet ≤ taken .bytes → length book ≤ taken .bytes → length steps ≤ taken .bytes → answer sheet book steps ≡ answerBook sheet book steps
   unfolding answer
   short-files f g h =
-      rw (answer, le-leb (length sheet) (limits .bytes) f, le-leb (length book) (limits .bytes) g, le-leb (length steps) (limits .bytes) h)
+      rw (answer, le-leb (length sheet) (taken .bytes) f, le-leb (length book) (taken .bytes) g, le-leb (length steps) (taken .bytes) h)

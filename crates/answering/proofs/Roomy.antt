@@ -1,56 +1,34 @@
 -- A run with room: where the lent slices hold whatever such a run may need, it is the check and then the plan's run.
-use mathlib.Core.Path.{_≡_, refl, ap, sym, _∙_}
-use mathlib.Core.Bool.{Bool, true, false, _&&_}
-use mathlib.Core.List.{List, [], _∷_, _++_}
+use mathlib.Core.Path.{_≡_, refl}
+use mathlib.Core.Bool.{true, _&&_}
+use mathlib.Core.List.{List}
 use Prim.Native.Nat.{ℕ, _+_, _*_, _≤_}
 use native.Mathlib.Nat.{mul-le-mul-left, mul-le-mul-right}
 use native.Mathlib.Omega.{arith}
 use lib.Dec.{leb}
-use lib.ListN.{length, take, length-take, length-map, length-append}
+use lib.ListN.{length}
 use borrow.Author.Tests.{le-leb}
-use Rattle.algebra.specs.Term.{Term, table, var, fact, pair, filter, copy, drop, fix}
-use Rattle.algebra.specs.Columns.{size, fixes, fixNumbers}
+use Rattle.algebra.specs.Term.{Term}
 use Rattle.relation.specs.declared.Columns.{Columns}
 use Rattle.relation.specs.Rows.{Rows}
 use Rattle.database.specs.declared.Database.{Database}
-use Rattle.database.specs.declared.Refusal.the-variants.{RowLimit, ShortSlice}
+use Rattle.database.specs.declared.Refusal.the-variants.{ShortSlice}
 use Rattle.database.specs.Stored.{rowsLimit, schema, tableRows}
 use Rattle.database.specs.Refusals.{Reply, refused, accepted, require, _>>=_}
 use Rattle.query.specs.declared.Query.{Query}
-use Rattle.query.specs.declared.Line.{Line}
-use Rattle.query.specs.Lines.{nodes, lines}
 use Rattle.query.specs.Check.{checkOver}
-use Rattle.query.proofs.Reading.{size-lines}
 use Rattle.query.proofs.CheckedOver.{check-over-iff}
+use Rattle.query.proofs.NodeLimits.{few-checked}
+use Rattle.plan.proofs.FixCount.{closed-fixes}
 use Rattle.machine.specs.Run.{Answer, execute, spaceFor, begin, runQuery}
 use Rattle.run.proofs.Meaning.{Ended, executed}
 use Rattle.answering.proofs.FewRows.{few-answer}
 
--- each fix is a node
-fixes-nodes : (t : Term) → length (fixNumbers t) ≤ size t
-unfolding fixNumbers size
-fixes-nodes (table t) = omega arith
-fixes-nodes (var v) = omega arith
-fixes-nodes (fact c x) = omega arith
-fixes-nodes (pair o a b) = omega (arith, fixes-nodes a, fixes-nodes b, length-append (fixNumbers a) (fixNumbers b))
-fixes-nodes (filter f a) = omega (arith, fixes-nodes a)
-fixes-nodes (copy c d a) = omega (arith, fixes-nodes a)
-fixes-nodes (drop c a) = omega (arith, fixes-nodes a)
-fixes-nodes (fix v a b) =
-    omega (arith, fixes-nodes a, fixes-nodes b, length-append (fixNumbers a) (fixNumbers b ++ (v ∷ [])), length-append (fixNumbers b) (v ∷ []))
-
 module _ (w limit : ℕ) (q : Query) (d : Database) (store : List ℕ) where
-  -- a checked query has no more nodes than its limit
-  few-nodes : (t : Term) → checkOver w limit q d store ≡ accepted t → size t ≤ limit
-  few-nodes t e =
-      let c = check-over-iff w limit q d store t .0 e .1 in
-      let long : size t ≡ length (take (q .count) (q .lines)) =
-      sym (size-lines t) ∙ ap length (sym (c .written)) ∙ length-map (take (q .count) (q .lines)) (λ (l : Line). l .node) in
-      omega (arith, c .in-range .1, length-take (q .count) (q .lines))
-
   space-enough : (L : ℕ) (t : Term) → checkOver w limit q d store ≡ accepted t → spaceFor w L t ≤ (limit + limit) * (1 + w * L)
-  unfolding fixes
-  space-enough L t e = mul-le-mul-right (1 + w * L) (omega (arith, few-nodes t e, fixes-nodes t))
+  space-enough L t e =
+      let closed = check-over-iff w limit q d store t .0 e .1 .well-formed .closed in
+      mul-le-mul-right (1 + w * L) (omega (arith, few-checked w limit q d store t e, closed-fixes closed))
 
   module _ (L budget : ℕ) (workspace answer : List ℕ) (limited : leb 1 L && leb L rowsLimit ≡ true)
       (space : (limit + limit) * (1 + w * L) ≤ length workspace) (room : w * L ≤ length answer) where

@@ -16,18 +16,20 @@ use Rattle.text.specs.Lines.{Rest, due, whole, stepLine}
 use Rattle.text.specs.Texts.{readNodes, queryValue, databaseValue, answerText, refusalText}
 use Rattle.text.specs.Replies.{loadTables, storeAfter}
 use Rattle.rewrite.specs.Rewrite.{rewrite}
+use Rattle.machine.specs.Limits.{Limits}
 use Rattle.machine.specs.Run.{Answer, execute}
 
 -- "It takes 24 nodes (else 2), L = 24, 1,000,000 lines, 384 stored rows and 8,192 bytes a file (else 17)."
-pub record Limits : Type 0 where
-  pub nodes : ℕ
-  pub rows : ℕ
+abbrev pub limits : Limits
+limits = record { nodes = 24; rows = 24 }
+
+pub record Taken : Type 0 where
   pub lines : ℕ
   pub stored : ℕ
   pub bytes : ℕ
 
-abbrev pub limits : Limits
-limits = record { nodes = 24; rows = 24; lines = 1000000; stored = 384; bytes = 8192 }
+abbrev pub taken : Taken
+taken = record { lines = 1000000; stored = 384; bytes = 8192 }
 
 -- "each steps line in turn": its form, else 12, then its rule; left is at least the number of lines left
 unfoldable pub applySteps : ℕ → Rest → Database → List ℕ → Query → Reply Query
@@ -42,12 +44,12 @@ applySteps (suc left) s d store q = elim (null (s .bytes)) [
 
 -- the store that `answer` has before it reads the book
 abbrev pub emptyStore : List ℕ
-emptyStore = replicate (columns * limits .stored) 0
+emptyStore = replicate (columns * taken .stored) 0
 
 -- "It tests file lengths, the book, the sheet, each steps line in turn, then runs"
 unfoldable pub answer : List ℕ → List ℕ → List ℕ → Reply Answer
 answer sheet book steps = do
-  _ ← require (leb (length sheet) (limits .bytes) && leb (length book) (limits .bytes) && leb (length steps) (limits .bytes)) ShortSlice
+  _ ← require (leb (length sheet) (taken .bytes) && leb (length book) (taken .bytes) && leb (length steps) (taken .bytes)) ShortSlice
   ts ← loadTables columns book emptyStore
   let d = databaseValue columns ts
   let store = storeAfter (accepted ts) emptyStore
@@ -55,7 +57,7 @@ answer sheet book steps = do
   _ ← checkOver columns (limits .nodes) (queryValue ns) d store
   q ← applySteps (length steps) (whole steps) d store (queryValue ns)
   t ← checkOver columns (limits .nodes) q d store
-  execute (schema columns d) (tableRows columns d store) (limits .rows) (limits .lines) t
+  execute (schema columns d) (tableRows columns d store) (limits .rows) (taken .lines) t
 
 abbrev pub replyText : Reply Answer → List ℕ
 replyText (refused r) = refusalText r

@@ -21,7 +21,7 @@ use Rattle.output.specs.Replies.{writeReply, sliceAfter}
 use Rattle.machine.specs.declared.Outcome.{Outcome}
 use Rattle.machine.specs.declared.Outcome.the-variants as outcome
 use Rattle.machine.specs.Run.{Answer, execute}
-use Rattle.answering.specs.Answer.{limits, applySteps, emptyStore}
+use Rattle.answering.specs.Answer.{limits, taken, applySteps, emptyStore}
 
 -- the cause of a refusal; an acceptance has none
 abbrev pub causeOf : Verdict → Refusal
@@ -36,7 +36,7 @@ outcomeCause (outcome.Refused r) = r
 abbrev pub answerRun : Database → List ℕ → Query → Reply Answer
 answerRun d store q = do
   t ← checkOver columns (limits .nodes) q d store
-  execute (schema columns d) (tableRows columns d store) (limits .rows) (limits .lines) t
+  execute (schema columns d) (tableRows columns d store) (limits .rows) (taken .lines) t
 
 -- "each steps line in turn"
 abbrev pub answerSteps : List ℕ → Database → List ℕ → Query → Reply Answer

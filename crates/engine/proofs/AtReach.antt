@@ -1,5 +1,6 @@
--- The theorems at Reach: their hypotheses can be met. `eq=0,1` stands over Reach as node 11. A first step of kind 1 at node 11 is accepted, a second
--- one, of kind 1 at the node of a table, is refused. The run of the held sheet finishes, so its two rows are those of the first sheet's meaning.
+-- The theorems at Reach: their hypotheses can be met. `eq=0,1` stands over Reach as node 11. A first step of kind 1 at node 11, made at the desk, is
+-- accepted, a second one, made at the panel, of kind 1 at the node of a table, is refused. The run of the held sheet at the panel's node limit finishes,
+-- so its two rows are those of the first sheet's meaning.
 use mathlib.Core.Path.{_≡_, refl}
 use mathlib.Core.List.{List, [], _∷_, _++_}
 use Prim.Native.Nat.{ℕ}
@@ -30,6 +31,7 @@ use Rattle.query.specs.declared.Query.{Query}
 use Rattle.query.specs.Lines.{nodeLimit}
 use Rattle.text.specs.Texts.{queryValue, databaseValue, tableEntries}
 use Rattle.rewrite.specs.Rewrite.{Step, held}
+use Rattle.machine.specs.Limits.{panelLimits}
 use Rattle.machine.specs.Run.{Answer}
 use Rattle.engine.specs.Starred.{row, doors, reach, reachStep}
 use Rattle.engine.specs.Demands.{Answers}
@@ -50,7 +52,9 @@ term =
     (T.drop 2 (T.pair Join (T.drop 1 (T.copy 1 2 (T.var 1))) (T.drop 0 (T.copy 0 2 (T.table 0))))))
 
 abbrev steps : List Step
-steps = record { database = book; store = store; kind = 1; node = 11 } ∷ (record { database = book; store = store; kind = 1; node = 1 } ∷ [])
+steps =
+    record { limit = nodeLimit; database = book; store = store; kind = 1; node = 11 }
+    ∷ (record { limit = panelLimits .nodes; database = book; store = store; kind = 1; node = 1 } ∷ [])
 
 same-book : SameColumns columns book book
 same-book = record { count = refl; columns = λ t h c. refl }
@@ -63,18 +67,18 @@ unfolding every any sift all lowest tabulate with without both pairCols cols fre
 checked = refl
 
 -- the first step's sheet is held, for the second is refused
-moved : held columns nodeLimit query steps ≡ queryValue (Table 0 ∷ (Filter (Eq 0 1) ∷ reachStep))
+moved : held columns query steps ≡ queryValue (Table 0 ∷ (Filter (Eq 0 1) ∷ reachStep))
 unfolding every any sift all lowest tabulate with without both pairCols cols free size fixes fixNumbers dropped used loopOf over overBoth pairMatch match sharedStable othersUnused stableEnough unusedEnough closedEnough rename written ordered ascend rowsOf entries insert insertAll compatible combined joinRows exceptRows tableStart tableOk checkDatabase checkForm lines push read termOf unless firstPass secondPass faults checkQuery checkOver filled around rule endedAt rewrite source ownLine loop pathLines closedLines besideLines planLines effectOf step run execute begin runQuery mathlib.Core.List.flatMap held
 moved = refl
 
 abbrev answer : Answer
 answer = record { columns = columnsOf columns (λ c. lib.Dec.ltb c 2); rows = row 1 2 ∷ (row 1 3 ∷ []); ran = 16 }
 
-finishes : runQuery columns nodeLimit (held columns nodeLimit query steps) book store 24 1000000 (replicate 4000 7) (replicate 200 7) ≡ accepted answer
+finishes : runQuery columns (panelLimits .nodes) (held columns query steps) book store 24 1000000 (replicate 4000 7) (replicate 200 7) ≡ accepted answer
 unfolding every any sift all lowest tabulate with without both pairCols cols free size fixes fixNumbers dropped used loopOf over overBoth pairMatch match sharedStable othersUnused stableEnough unusedEnough closedEnough rename written ordered ascend rowsOf entries insert insertAll compatible combined joinRows exceptRows tableStart tableOk checkDatabase checkForm lines push read termOf unless firstPass secondPass faults checkQuery checkOver filled around rule endedAt rewrite source ownLine loop pathLines closedLines besideLines planLines effectOf step run execute begin runQuery mathlib.Core.List.flatMap held
 finishes = refl
 
 pub reach-answers : Answers columns book store term answer
 reach-answers =
-    rewrites-invisible columns nodeLimit query book store term checked book store same-book steps over-book 24 1000000 (replicate 4000 7) (replicate 200 7) answer
+    rewrites-invisible columns nodeLimit query book store term checked book store same-book steps over-book (panelLimits .nodes) 24 1000000 (replicate 4000 7) (replicate 200 7) answer
     finishes

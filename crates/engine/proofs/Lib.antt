@@ -4,3 +4,5 @@ pub mod RewritesInvisible
 pub mod AtReach
 pub mod StepLists
 pub mod LeftMeans
+pub mod OneAnswer
+pub mod Serves

@@ -1,9 +1,11 @@
 -- Demand 3. A sheet checked over some book; any list of steps, kinds and nodes any numbers, refused ones included, each over any stored book with
--- the first book's columns and each given the sheet that the one before handed back; a final stored book with those columns; any row limit and
--- budget and any slices: if the run of the held sheet finishes, its columns and rows are those of the FIRST sheet's meaning over that book.
+-- the first book's columns, each made with a node limit of its own (desk or panel) and each given the sheet that the one before handed back; a final
+-- stored book with those columns; any node limit, row limit and budget and any slices: if the run of the held sheet finishes, its columns and rows are
+-- those of the FIRST sheet's meaning over that book.
 use mathlib.Core.Path.{_≡_, ap, sym, _∙_, subst}
 use mathlib.Core.List.{List, [], _∷_}
-use Prim.Native.Nat.{ℕ}
+use Prim.Native.Nat.{ℕ, _≤_}
+use native.Mathlib.Omega.{arith}
 use Rattle.laws.proofs.EachMember.{Each, each-map}
 use Rattle.algebra.specs.Term.{Term}
 use Rattle.algebra.specs.Columns.{Cols, Schema, noCols, cols}
@@ -14,13 +16,14 @@ use Rattle.relation.specs.Shows.{Shows}
 use Rattle.relation.proofs.Operators.{shows-map}
 use Rattle.relation.proofs.RowsUnique.{shows-unique}
 use Rattle.database.specs.declared.Database.{Database}
-use Rattle.database.specs.Stored.{schema, tables, SameColumns}
+use Rattle.database.specs.Stored.{schema, tables, SameColumns, checkDatabase}
 use Rattle.database.specs.Refusals.{accepted}
 use Rattle.database.proofs.Stored.{typed-tables}
 use Rattle.database.proofs.Columns.{same-schema}
 use Rattle.query.specs.declared.Query.{Query}
 use Rattle.query.specs.Check.{checkOver, meaningOver}
 use Rattle.query.proofs.CheckedOver.{check-over-iff}
+use Rattle.query.proofs.NodeLimits.{checked-within}
 use Rattle.rewrite.specs.Rewrite.{Step, held}
 use Rattle.rewrite.proofs.Held.{Kept, kept-all}
 use Rattle.machine.specs.Run.{Answer, runQuery}
@@ -35,23 +38,24 @@ OverColumns w d steps = Each (λ (s : Step). SameColumns w d (s .database)) step
 module _ (w limit : ℕ) (q : Query) (d₀ : Database) (store₀ : List ℕ) (t : Term) (checked : checkOver w limit q d₀ store₀ ≡ accepted t)
     (d : Database) (store : List ℕ) (same : SameColumns w d₀ d) where
   -- the held sheet, in terms of the final book's columns
-  heldAt : (steps : List Step) → OverColumns w d₀ steps → Kept limit (schema w d) t (held w limit q steps)
+  heldAt : (steps : List Step) → OverColumns w d₀ steps → Kept (schema w d) t (held w q steps)
   heldAt steps over =
       let G = same-schema w d₀ d same in
-      let first : Kept limit (schema w d₀) t q = record { term = t; checked = check-over-iff w limit q d₀ store₀ t .0 checked .1; swap = swap-refl t } in
-      subst (λ (H : Schema). Kept limit H t (held w limit q steps)) G
-      (kept-all w limit (schema w d₀) t q first steps (each-map steps (λ s h. sym (same-schema w d₀ (s .database) h)) over))
+      let first : Kept (schema w d₀) t q =
+      record { term = t; checked = checked-within (q .count) (check-over-iff w limit q d₀ store₀ t .0 checked .1) (omega arith); swap = swap-refl t } in
+      subst (λ (H : Schema). Kept H t (held w q steps)) G
+      (kept-all w (schema w d₀) t q first steps (each-map steps (λ s h. sym (same-schema w d₀ (s .database) h)) over))
 
   pub rewrites-invisible : (steps : List Step) → OverColumns w d₀ steps
-      → (L budget : ℕ) (workspace answer : List ℕ) (a : Answer) → runQuery w limit (held w limit q steps) d store L budget workspace answer ≡ accepted a
+      → (most L budget : ℕ) (workspace answer : List ℕ) (a : Answer) → runQuery w most (held w q steps) d store L budget workspace answer ≡ accepted a
       → Answers w d store t a
-  rewrites-invisible steps over L budget workspace answer a e =
+  rewrites-invisible steps over most L budget workspace answer a e =
       let k = heldAt steps over in
-      let p = held w limit q steps in
-      let (u, again, ran) = executed w limit p d store L budget workspace answer a e in
-      let stored = check-over-iff w limit p d store u .0 again .0 in
-      let now = check-over-iff w limit p d store (k .term) .1 (stored, k .checked) in
-      let end = run-is-meaning w limit p d store L budget workspace answer (k .term) now a e in
+      let p = held w q steps in
+      let (u, again, ran) = executed w most p d store L budget workspace answer a e in
+      let (stored, c) = check-over-iff w most p d store u .0 again in
+      let now = check-over-iff w most p d store (k .term) .1 (stored, checked-within most (k .checked) (c .in-range .1)) in
+      let end = run-is-meaning w most p d store L budget workspace answer (k .term) now a e in
       let first = check-over-iff w limit q d₀ store₀ t .0 checked .1 in
       let closed : Closed (schema w d) t = subst (λ (H : Schema). Closed H t) (same-schema w d₀ d same) (first .well-formed .closed) in
       let columns : cols (schema w d) noCols (k .term) ≡ cols (schema w d) noCols t = k .swap .closed closed .1 in
@@ -63,11 +67,18 @@ module _ (w limit : ℕ) (q : Query) (d₀ : Database) (store₀ : List ℕ) (t 
 
   -- two lists from one sheet, run over one book: the same columns and the same rows, entry for entry, wherever both finish
   pub two-lists-agree : (steps more : List Step) → OverColumns w d₀ steps → OverColumns w d₀ more
-      → (L L′ budget budget′ : ℕ) (workspace workspace′ answer answer′ : List ℕ) (a b : Answer)
-      → runQuery w limit (held w limit q steps) d store L budget workspace answer ≡ accepted a
-      → runQuery w limit (held w limit q more) d store L′ budget′ workspace′ answer′ ≡ accepted b
+      → (most most′ L L′ budget budget′ : ℕ) (workspace workspace′ answer answer′ : List ℕ) (a b : Answer)
+      → runQuery w most (held w q steps) d store L budget workspace answer ≡ accepted a
+      → runQuery w most′ (held w q more) d store L′ budget′ workspace′ answer′ ≡ accepted b
       → (a .columns ≡ b .columns) × (a .rows ≡ b .rows)
-  two-lists-agree steps more over over′ L L′ budget budget′ workspace workspace′ answer answer′ a b e f =
-      let x = rewrites-invisible steps over L budget workspace answer a e in
-      let y = rewrites-invisible more over′ L′ budget′ workspace′ answer′ b f in
+  two-lists-agree steps more over over′ most most′ L L′ budget budget′ workspace workspace′ answer answer′ a b e f =
+      let x = rewrites-invisible steps over most L budget workspace answer a e in
+      let y = rewrites-invisible more over′ most′ L′ budget′ workspace′ answer′ b f in
       (x .columns ∙ sym (y .columns), shows-unique (x .rows) (y .rows))
+
+  -- the held sheet is checked over the final book, if that is on the form, under every limit that it is within, with one term
+  pub held-checked : (steps : List Step) → OverColumns w d₀ steps → checkDatabase w d store ≡ accepted tt
+      → (u : Term) × ((most : ℕ) → held w q steps .count ≤ most → checkOver w most (held w q steps) d store ≡ accepted u)
+  held-checked steps over stored =
+      let k = heldAt steps over in
+      (k .term, λ most h. check-over-iff w most (held w q steps) d store (k .term) .1 (stored, checked-within most (k .checked) h))

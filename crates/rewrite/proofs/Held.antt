@@ -5,7 +5,7 @@ use mathlib.Core.Bool.{true}
 use mathlib.Core.List.{List, [], _∷_, _++_, map}
 use Prim.Native.Nat.{ℕ, _+_, _-_, _≤_}
 use native.Mathlib.Omega.{arith}
-use lib.ListN.{length, take, drop as dropFirst, getD, length-take, length-map}
+use lib.ListN.{length, take, drop as dropFirst, getD}
 use lib.Seq.{take-at}
 use Rattle.laws.proofs.EachMember.{Each}
 use Rattle.algebra.specs.Term.{Term}
@@ -21,7 +21,7 @@ use Rattle.algebra.proofs.Swap.{Swap, swap-refl, swap-sound, swap-trans, swap-w
 use Rattle.database.specs.declared.Database.{Database}
 use Rattle.database.specs.Stored.{schema, SameColumns}
 use Rattle.database.specs.Refusals.{Reply, refused, accepted, _>>=_}
-use Rattle.database.proofs.Replies.{accepted-then, accepted-same}
+use Rattle.database.proofs.Replies.{accepted-then}
 use Rattle.database.proofs.Stored.{table-below}
 use Rattle.database.proofs.Columns.{same-schema}
 use Rattle.query.specs.declared.Node.{Node}
@@ -36,6 +36,7 @@ use Rattle.query.proofs.Prefix.{node-lines, node-before}
 use Rattle.query.proofs.CheckReply.{Checked}
 use Rattle.query.proofs.CheckTests.{checked-narrow}
 use Rattle.query.proofs.CheckedOver.{check-over-iff}
+use Rattle.query.proofs.NodeLimits.{few-nodes, checked-within, one-term}
 use Rattle.query.proofs.PartsFine.{parts-fine}
 use Rattle.query.proofs.Replaced.{Replaced, replaced}
 use Rattle.rewrite.specs.Rewrite.{rewrite, withNodes, handedBack, Step, held}
@@ -52,18 +53,16 @@ lines-first (x ∷ ns) rest = ap (λ (l : List Node). x ∷ l) (lines-first ns r
 pub lines-back : (q : Query) (ns : List Node) → nodes (withNodes q ns) ≡ ns
 lines-back q ns = lines-first ns (dropFirst (length ns) (q .lines))
 
-few-nodes : (q : Query) → length (nodes q) ≤ q .count
-few-nodes q = omega (arith, length-map (take (q .count) (q .lines)) (λ (l : Line). l .node), length-take (q .count) (q .lines))
-
 -- an accepted step was given a checked sheet
-checked-first : (w limit : ℕ) (q : Query) (d : Database) (store : List ℕ) (k n : ℕ) (p : Query) → rewrite w limit q d store k n ≡ accepted p
+pub checked-first : (w limit : ℕ) (q : Query) (d : Database) (store : List ℕ) (k n : ℕ) (p : Query) → rewrite w limit q d store k n ≡ accepted p
     → (t : Term) × (checkOver w limit q d store ≡ accepted t)
 unfolding rewrite
 checked-first w limit q d store k n p e = let (t, h, _) = accepted-then (checkOver w limit q d store) _ e in (t, h)
 
-pub record Kept (limit : ℕ) (G : Schema) (t : Term) (p : Query) : Type 1 where
+-- the query p is checked, and its term may be put for t; under which limits it is checked hangs on its count alone
+pub record Kept (G : Schema) (t : Term) (p : Query) : Type 1 where
   pub term : Term
-  pub checked : Checked limit p G term
+  pub checked : Checked (p .count) p G term
   pub swap : Swap G t term
 
 module _ (w limit : ℕ) (q : Query) (d : Database) (store : List ℕ) (t : Term) (over : checkOver w limit q d store ≡ accepted t) (k n : ℕ)
@@ -119,8 +118,8 @@ module _ (w limit : ℕ) (q : Query) (d : Database) (store : List ℕ) (t : Term
       form-append before (form-append (form-written m (subst (λ (b : Term). OnForm w (lines b)) (matched k a (x .matches)) own)) after)
 
   -- so the rule's sheet is checked
-  step-checked : Checked limit (withNodes q (R.replaced (nodes q) n a (written m))) G (now .term)
-  step-checked =
+  sheet-checked : Checked limit (withNodes q (R.replaced (nodes q) n a (written m))) G (now .term)
+  sheet-checked =
       let ns = R.replaced (nodes q) n a (written m) in
       let lines-now : ns ≡ lines (now .term) = term-lines ns (now .term) .0 (now .reads) in
       let same : length ns ≡ length (nodes q) =
@@ -134,36 +133,38 @@ module _ (w limit : ℕ) (q : Query) (d : Database) (store : List ℕ) (t : Term
         well-formed = swap-wellformed (now .swap) (checkedNow .well-formed);
       }
 
-  pub step-kept : Kept limit G t p
-  step-kept = record {
-    term = now .term;
-    checked = subst (λ (r : Query). Checked limit r G (now .term)) (sym (x .hands)) step-checked;
-    swap = now .swap;
-  }
+  step-checked : Checked limit p G (now .term)
+  step-checked = subst (λ (r : Query). Checked limit r G (now .term)) (sym (x .hands)) sheet-checked
+
+  -- and within the limit
+  pub step-within : p .count ≤ limit
+  step-within = step-checked .in-range .1
+
+  pub step-kept : Kept G t p
+  step-kept = record { term = now .term; checked = checked-within (p .count) step-checked (omega arith); swap = now .swap }
+
+-- what a step of a list replies
+abbrev pub replied : ℕ → Query → Step → Reply Query
+replied w q s = rewrite w (s .limit) q (s .database) (s .store) (s .kind) (s .node)
 
 -- one step, over a book with the columns G
-module _ (w limit : ℕ) (G : Schema) (t : Term) where
-  -- the checked term of a query is one
-  one-term : (q : Query) (s u : Term) → Checked limit q G s → Checked limit q G u → s ≡ u
-  one-term q s u c e = accepted-same (sym (term-lines (nodes q) s .1 (c .written)) ∙ term-lines (nodes q) u .1 (e .written))
-
-  kept-then : {q p : Query} (c : Kept limit G t q) (e : Kept limit G (c .term) p) → Kept limit G t p
+module _ (w : ℕ) (G : Schema) (t : Term) where
+  kept-then : {q p : Query} (c : Kept G t q) (e : Kept G (c .term) p) → Kept G t p
   kept-then c e = record { term = e .term; checked = e .checked; swap = swap-trans (c .swap) (e .swap) }
 
-  kept-step : (q : Query) → Kept limit G t q → (s : Step) → schema w (s .database) ≡ G
-      → Kept limit G t (handedBack q (rewrite w limit q (s .database) (s .store) (s .kind) (s .node)))
-  kept-step q c s same = by-reply (rewrite w limit q (s .database) (s .store) (s .kind) (s .node)) refl
+  kept-step : (q : Query) → Kept G t q → (s : Step) → schema w (s .database) ≡ G → Kept G t (handedBack q (replied w q s))
+  kept-step q c s same = by-reply (replied w q s) refl
     where
-      by-reply : (r : Reply Query) → rewrite w limit q (s .database) (s .store) (s .kind) (s .node) ≡ r → Kept limit G t (handedBack q r)
+      by-reply : (r : Reply Query) → replied w q s ≡ r → Kept G t (handedBack q r)
       by-reply (refused _) e = c
       by-reply (accepted p) e =
-          let (u, over) = checked-first w limit q (s .database) (s .store) (s .kind) (s .node) p e in
-          let x = accepted-iff w limit q (s .database) (s .store) u over (s .kind) (s .node) p .0 e in
-          let k : Kept limit G u p = subst (λ (H : Schema). Kept limit H u p) same (step-kept w limit q (s .database) (s .store) u over (s .kind) (s .node) p x) in
-          let i : u ≡ c .term = one-term q u (c .term) (subst (λ (H : Schema). Checked limit q H u) same (check-over-iff w limit q (s .database) (s .store) u .0 over .1)) (c .checked) in
-          kept-then c (subst (λ (v : Term). Kept limit G v p) i k)
+          let (u, over) = checked-first w (s .limit) q (s .database) (s .store) (s .kind) (s .node) p e in
+          let x = accepted-iff w (s .limit) q (s .database) (s .store) u over (s .kind) (s .node) p .0 e in
+          let k : Kept G u p = subst (λ (H : Schema). Kept H u p) same (step-kept w (s .limit) q (s .database) (s .store) u over (s .kind) (s .node) p x) in
+          let i : u ≡ c .term = one-term q u (c .term) (subst (λ (H : Schema). Checked (s .limit) q H u) same (check-over-iff w (s .limit) q (s .database) (s .store) u .0 over .1)) (c .checked) in
+          kept-then c (subst (λ (v : Term). Kept G v p) i k)
 
-  pub kept-all : (q : Query) → Kept limit G t q → (steps : List Step) → Each (λ (s : Step). schema w (s .database) ≡ G) steps → Kept limit G t (held w limit q steps)
+  pub kept-all : (q : Query) → Kept G t q → (steps : List Step) → Each (λ (s : Step). schema w (s .database) ≡ G) steps → Kept G t (held w q steps)
   unfolding held
   kept-all q c [] h = c
   kept-all q c (s ∷ steps) (e, h) = kept-all _ (kept-step q c s e) steps h

@@ -3,7 +3,7 @@ use native.Mathlib.Omega.{arith}
 use mathlib.Core.Path.{_≡_, refl}
 use denote.Ref.{now}
 use Rattle.relation.specs.Rows.{columns}
-use Rattle.answering.specs.Answer.{limits}
+use Rattle.answering.specs.Answer.{limits, taken}
 use Rattle.run.proofs.Meaning.{run-ended}
 use Rattle.answering.proofs.Roomy.{roomy-run, few-ended}
 use Rattle.answering.proofs.Printed.{run-stops, run-ends}
@@ -15,7 +15,7 @@ returns c =
     let s = c .before .before .before .before .before .before .before .before .before .before .before .before .before .before .before .args in
     let x = c .before .before .before .before .before .enum-told .given in
     let r = c .before .before .before .before .before .before .before .before .before .before .run in
-    run-stops (roomy-run columns (limits .nodes) (s .query) (s .database) (now (s .store)) (limits .rows) (limits .lines) _ _ refl (omega arith) (omega arith))
+    run-stops (roomy-run columns (limits .nodes) (s .query) (s .database) (now (s .store)) (limits .rows) (taken .lines) _ _ refl (omega arith) (omega arith))
     (r .result) (r .ensures .0 .0) (x .0 .0) (c .before .before .before .before .outcome-cause .result) (x .1) (c .before .before .before .before .outcome-cause .ensures) (c .before .before .write-refusal .ensures)
 
 returns-2 : tie.Need-returns-2
@@ -23,10 +23,10 @@ returns-2 c =
     let s = c .before .before .before .before .before .before .before .before .before .before .before .before .before .before .before .before .args in
     let g = c .before .before .before .before .before .before .outcome .given in
     let r = c .before .before .before .before .before .before .before .before .before .before .before .run in
-    let e = run-ended columns (limits .nodes) (s .query) (s .database) (now (s .store)) (limits .rows) (limits .lines) _ _ (r .result) (r .ensures .0 .0) _ (r .ensures .0 .2)
+    let e = run-ended columns (limits .nodes) (s .query) (s .database) (now (s .store)) (limits .rows) (taken .lines) _ _ (r .result) (r .ensures .0 .0) _ (r .ensures .0 .2)
     (g .0 .0) (g .0 .1 .0) (g .1) in
-    run-ends (roomy-run columns (limits .nodes) (s .query) (s .database) (now (s .store)) (limits .rows) (limits .lines) _ _ refl (omega arith) (omega arith))
-    (g .0 .0) (few-ended columns (limits .nodes) (s .query) (s .database) (now (s .store)) (limits .rows) (limits .lines) _ _ e)
+    run-ends (roomy-run columns (limits .nodes) (s .query) (s .database) (now (s .store)) (limits .rows) (taken .lines) _ _ refl (omega arith) (omega arith))
+    (g .0 .0) (few-ended columns (limits .nodes) (s .query) (s .database) (now (s .store)) (limits .rows) (taken .lines) _ _ e)
     _ _ (g .0 .1 .0) e (c .before .before .write-answer .ensures)
 
 pub answer-run-spec : {M : Type 1} → statement M

@@ -1,0 +1,30 @@
+-- A query within two node limits serves both places: the limit decides number 2 and nothing else.
+use mathlib.Core.Path.{_≡_}
+use mathlib.Core.List.{List}
+use Prim.Native.Nat.{ℕ, _≤_}
+use native.Mathlib.Omega.{arith}
+use Rattle.database.specs.declared.Database.{Database}
+use Rattle.query.specs.declared.Query.{Query}
+use Rattle.query.specs.Check.{checkOver}
+use Rattle.query.proofs.NodeLimits.{check-over-limits}
+use Rattle.plan.specs.Plan.{compile}
+use Rattle.plan.proofs.NodeLimits.{compile-limits}
+use Rattle.rewrite.specs.Rewrite.{rewrite, Step, held}
+use Rattle.rewrite.proofs.NodeLimits.{rewrite-limits, held-count}
+
+-- each call replies the same under both limits: number and place, the plan, the very sheet
+pub record Serves (w limit limit′ : ℕ) (q : Query) : Type 0 where
+  pub checks : (d : Database) (store : List ℕ) → checkOver w limit q d store ≡ checkOver w limit′ q d store
+  pub compiles : (d : Database) (store : List ℕ) → compile w limit q d store ≡ compile w limit′ q d store
+  pub rewrites : (d : Database) (store : List ℕ) (k n : ℕ) → rewrite w limit q d store k n ≡ rewrite w limit′ q d store k n
+
+serves : (w limit limit′ : ℕ) (q : Query) → q .count ≤ limit → q .count ≤ limit′ → Serves w limit limit′ q
+serves w limit limit′ q h h′ = record {
+  checks = check-over-limits q limit limit′ h h′ w;
+  compiles = compile-limits q limit limit′ h h′ w;
+  rewrites = rewrite-limits q limit limit′ h h′ w;
+}
+
+-- and so does the query that any list of steps leaves of it, each step under a limit of its own
+pub held-serves : (w limit limit′ : ℕ) (q : Query) → q .count ≤ limit → q .count ≤ limit′ → (steps : List Step) → Serves w limit limit′ (held w q steps)
+held-serves w limit limit′ q h h′ steps = let n = held-count w q steps in serves w limit limit′ (held w q steps) (omega arith) (omega arith)
