@@ -61,6 +61,15 @@ enum {
 /* Entries of workspace that a run of so many nodes and fixes with a row limit needs. */
 #define CAPESHARD_WORKSPACE(nodes, fixes, rows) (((size_t)(nodes) + (size_t)(fixes)) * (1 + (size_t)CAPESHARD_COLUMNS * (size_t)(rows)))
 
+/* The wall panel: its most nodes, its row limit, and entries of workspace that are enough for each of its queries. A fix has its own line and its
+ * var's, and one line is neither: of n nodes at most (n - 1) / 2 are fixes. */
+enum {
+    CAPESHARD_PANEL_NODES = 32,
+    CAPESHARD_PANEL_ROWS = 64,
+    CAPESHARD_PANEL_WORKSPACE =
+        (CAPESHARD_PANEL_NODES + (CAPESHARD_PANEL_NODES - 1) / 2) * (1 + CAPESHARD_COLUMNS * CAPESHARD_PANEL_ROWS)
+};
+
 /* Reads a sheet's text (1, 2, 17). limit: the highest node count taken, at most CAPESHARD_NODES. */
 uint64_t capeshard_read_query(const uint8_t *text, size_t text_len, size_t limit, uint32_t *query, size_t query_len);
 
@@ -86,6 +95,30 @@ uint64_t capeshard_compile(const uint32_t *query, size_t query_len, const uint32
 uint64_t capeshard_run(const uint32_t *query, size_t query_len, const uint32_t *database, size_t database_len, const uint32_t *store, size_t store_len,
                        size_t limit, size_t rows, uint32_t budget, uint32_t *workspace, size_t workspace_len, uint32_t *answer, size_t answer_len,
                        uint32_t *told, size_t told_len);
+
+/* The calls of the panel: those above with the limit CAPESHARD_PANEL_NODES and CAPESHARD_PANEL_ROWS rows, over the same slices with the same room. A
+ * query of at most CAPESHARD_PANEL_NODES nodes serves both, whichever rewrote it; where both finish a run, the answer's rows and told are the same. */
+
+/* Reads a sheet's text for the panel (1, 2, 17). */
+uint64_t capeshard_panel_read_query(const uint8_t *text, size_t text_len, uint32_t *query, size_t query_len);
+
+/* Checks a query over a database for the panel (11, then 2, 1, 3 to 10). */
+uint64_t capeshard_panel_check(const uint32_t *query, size_t query_len, const uint32_t *database, size_t database_len, const uint32_t *store,
+                               size_t store_len);
+
+/* Rewrites a query by a kind at a node (as the panel's check, then 12 to 15). */
+uint64_t capeshard_panel_rewrite(uint32_t *query, size_t query_len, const uint32_t *database, size_t database_len, const uint32_t *store,
+                                 size_t store_len, uint32_t kind, uint32_t node);
+
+/* Compiles a query (as the panel's check); plan takes CAPESHARD_PLAN_ROOM entries here too. */
+uint64_t capeshard_panel_compile(const uint32_t *query, size_t query_len, const uint32_t *database, size_t database_len, const uint32_t *store,
+                                 size_t store_len, uint32_t *plan, size_t plan_len);
+
+/* Runs a query (as the panel's check, then 17 to 19; never 16, as no row limit is handed in). It needs CAPESHARD_WORKSPACE(nodes, fixes,
+ * CAPESHARD_PANEL_ROWS) entries of workspace: CAPESHARD_PANEL_WORKSPACE are always enough. An answer has at most CAPESHARD_PANEL_ROWS rows. */
+uint64_t capeshard_panel_run(const uint32_t *query, size_t query_len, const uint32_t *database, size_t database_len, const uint32_t *store,
+                             size_t store_len, uint32_t budget, uint32_t *workspace, size_t workspace_len, uint32_t *answer, size_t answer_len,
+                             uint32_t *told, size_t told_len);
 
 #ifdef __cplusplus
 }

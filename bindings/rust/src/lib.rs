@@ -1,6 +1,8 @@
 //! Capeshard for Rust: queries, databases, rewriting, compiling and running, by the calls of `include/capeshard.h`. Nothing here decides anything: each method
 //! lends slices of the right length to one call, whose result and slices are proved to be those of the definitions.
 
+pub mod panel;
+
 /// The columns that there can be, and so the entries of a stored row.
 pub const COLUMNS: usize = 8;
 /// The most nodes of a query.
@@ -76,6 +78,50 @@ pub mod calls {
             store_len: usize,
             limit: usize,
             rows: usize,
+            budget: u32,
+            workspace: *mut u32,
+            workspace_len: usize,
+            answer: *mut u32,
+            answer_len: usize,
+            told: *mut u32,
+            told_len: usize,
+        ) -> u64;
+        pub fn capeshard_panel_read_query(text: *const u8, text_len: usize, query: *mut u32, query_len: usize) -> u64;
+        pub fn capeshard_panel_check(
+            query: *const u32,
+            query_len: usize,
+            database: *const u32,
+            database_len: usize,
+            store: *const u32,
+            store_len: usize,
+        ) -> u64;
+        pub fn capeshard_panel_rewrite(
+            query: *mut u32,
+            query_len: usize,
+            database: *const u32,
+            database_len: usize,
+            store: *const u32,
+            store_len: usize,
+            kind: u32,
+            node: u32,
+        ) -> u64;
+        pub fn capeshard_panel_compile(
+            query: *const u32,
+            query_len: usize,
+            database: *const u32,
+            database_len: usize,
+            store: *const u32,
+            store_len: usize,
+            plan: *mut u32,
+            plan_len: usize,
+        ) -> u64;
+        pub fn capeshard_panel_run(
+            query: *const u32,
+            query_len: usize,
+            database: *const u32,
+            database_len: usize,
+            store: *const u32,
+            store_len: usize,
             budget: u32,
             workspace: *mut u32,
             workspace_len: usize,
@@ -262,6 +308,11 @@ impl PlanLine {
         };
         PlanLine { to: entries[1], op }
     }
+
+    /// The lines of a plan in the flat form.
+    fn all(plan: &[u32]) -> Vec<PlanLine> {
+        plan[1..].chunks(SLOT_ENTRIES).take(plan[0] as usize).map(PlanLine::of).collect()
+    }
 }
 
 /// The columns whose bits are set.
@@ -345,10 +396,24 @@ pub struct Answer {
     pub ran: u32,
 }
 
+impl Answer {
+    fn of(answer: &[u32], told: [u32; RUN_ROOM]) -> Answer {
+        let [columns, rows, ran] = told;
+        let columns = columns_of(columns);
+        let values = |row: &[u32]| columns.iter().map(|&column| row[column]).collect();
+        let rows = answer.chunks(COLUMNS).take(rows as usize).map(values).collect();
+        Answer { columns, rows, ran }
+    }
+}
+
 impl Query {
+    fn blank() -> Query {
+        Query { flat: [0; QUERY_ROOM] }
+    }
+
     /// Reads a sheet's text (1, 2).
     pub fn read(text: &[u8]) -> Result<Query, Refusal> {
-        let mut query = Query { flat: [0; QUERY_ROOM] };
+        let mut query = Query::blank();
         // SAFETY: each pointer and length is that of one slice, and the written one is borrowed here alone.
         reply(unsafe {
             calls::capeshard_read_query(text.as_ptr(), text.len(), NODES, query.flat.as_mut_ptr(), query.flat.len())
@@ -361,7 +426,7 @@ impl Query {
         if NODES < lines.len() {
             return None;
         }
-        let mut query = Query { flat: [0; QUERY_ROOM] };
+        let mut query = Query::blank();
         query.flat[0] = lines.len() as u32;
         for (line, entries) in lines.iter().zip(query.flat[1..].chunks_mut(LINE_ENTRIES)) {
             entries.copy_from_slice(&line.flat());
@@ -429,7 +494,7 @@ impl Query {
                 plan.len(),
             )
         })?;
-        Ok(plan[1..].chunks(SLOT_ENTRIES).take(plan[0] as usize).map(PlanLine::of).collect())
+        Ok(PlanLine::all(&plan))
     }
 
     /// Runs the query (as the check, then 16, 18, 19): at most so many rows a register, at most so many plan lines.
@@ -460,9 +525,6 @@ impl Query {
                 told.len(),
             )
         })?;
-        let columns = columns_of(told[0]);
-        let values = |row: &[u32]| columns.iter().map(|&column| row[column]).collect();
-        let rows = answer.chunks(COLUMNS).take(told[1] as usize).map(values).collect();
-        Ok(Answer { columns: columns.clone(), rows, ran: told[2] })
+        Ok(Answer::of(&answer, told))
     }
 }

@@ -1,32 +1,8 @@
 //! Document 01's starred cases of Reach, the refusals of each call, and queries by their lines.
-use capeshard::{calls, Database, Line, Op, Operands, PlanLine, Query, Refusal, Table};
+mod common;
 
-const BOOK: &[u8] = b"guide=1\ntables=1\ncols=0,1\nrows=2\nrow=1,2\nrow=2,3\n";
-
-const REACH: [Line; 10] = [
-    Line::Table(0),
-    Line::Var(1),
-    Line::Copy(1, 2),
-    Line::Drop(1),
-    Line::Table(0),
-    Line::Copy(0, 2),
-    Line::Drop(0),
-    Line::Join,
-    Line::Drop(2),
-    Line::Fix(1),
-];
-
-fn book() -> Database {
-    Database::read(BOOK).unwrap()
-}
-
-fn query(more: &[Line]) -> Query {
-    Query::of(&[&REACH, more].concat()).unwrap()
-}
-
-fn refused<T>(number: u32, place: u32) -> Result<T, Refusal> {
-    Err(Refusal { number, place })
-}
+use capeshard::{calls, Database, Line, Op, Operands, PlanLine, Query, Table};
+use common::{book, query, refused, REACH};
 
 #[test]
 fn reach_answers() {

@@ -2,6 +2,7 @@
 //
 // A call returns its verdict as one number. A flat slice below its room gives 17 before any other test.
 mod calls;
+mod panel_calls; // panel_calls.rt: the same at the panel's limits
 
 pub use calls::capeshard_check;
 pub use calls::capeshard_compile;
@@ -9,3 +10,8 @@ pub use calls::capeshard_read_database;
 pub use calls::capeshard_read_query;
 pub use calls::capeshard_rewrite;
 pub use calls::capeshard_run;
+pub use panel_calls::capeshard_panel_check;
+pub use panel_calls::capeshard_panel_compile;
+pub use panel_calls::capeshard_panel_read_query;
+pub use panel_calls::capeshard_panel_rewrite;
+pub use panel_calls::capeshard_panel_run;

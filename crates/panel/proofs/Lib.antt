@@ -1,0 +1,3 @@
+pub mod PanelIsDesk
+pub mod ServesBoth
+pub mod PanelSpace
