@@ -43,6 +43,31 @@ def the_width_stands_once():
     ]
 
 
+def the_panels_numbers_agree():
+    """Node limit, row limit and workspace of the panel: in the specification, the code, the C header and the Rust wrapper."""
+    places = {
+        "crates/machine/specs/Limits.antt": [r"panelLimits = record \{ nodes = (\d+);", r"panelLimits = record \{.* rows = (\d+) \}", None],
+        "crates/panel/src/lib.rt": [r"PANEL_NODES: usize = (\d+);", r"PANEL_ROWS: usize = (\d+);", r"PANEL_WORKSPACE: usize = ([^;]*);"],
+        "include/capeshard.h": [r"CAPESHARD_PANEL_NODES = (\d+),", r"CAPESHARD_PANEL_ROWS = (\d+),", r"CAPESHARD_PANEL_WORKSPACE =([^}]*)\}"],
+        "bindings/rust/src/panel.rs": [r"NODES: usize = (\d+);", r"ROWS: usize = (\d+);", r"WORKSPACE: usize = ([^;]*);"],
+    }
+    proved = int(re.search(r"panel-entries : enoughSpace columns panelLimits ≡ (\d+)", (TOP / "crates/panel/proofs/PanelSpace.antt").read_text()).group(1))
+    width = int(re.search(r"^columns = (\d+)", (TOP / "crates/relation/specs/Rows.antt").read_text(), re.M).group(1))
+    numbers = {}
+    for name, patterns in places.items():
+        text = (TOP / name).read_text()
+        nodes, rows = (int(re.search(pattern, text).group(1)) for pattern in patterns[:2])
+        entries = proved if patterns[2] is None else evaluated(re.search(patterns[2], text).group(1), nodes, rows, width)
+        numbers[name] = (nodes, rows, entries)
+    return [f"{name}: {found}" for name, found in numbers.items()] if len(set(numbers.values())) > 1 else []
+
+
+def evaluated(expression, nodes, rows, width):
+    """A constant's expression over the constants of the panel and the width."""
+    plain = re.sub(r"\w*NODES", str(nodes), re.sub(r"\w*ROWS", str(rows), re.sub(r"\w*COLUMNS", str(width), expression)))
+    return eval(" ".join(plain.split()).replace("/", "//"), {"__builtins__": {}})
+
+
 def no_axioms_and_no_holes():
     bad = []
     for kind in ("specs", "proofs"):
@@ -106,7 +131,7 @@ def public_citations(crate, function):
 
 def the_pages_name_files_that_are_there():
     bad = []
-    for page in [TOP / "README.md", *sorted((TOP / "docs").glob("*.md"))]:
+    for page in [TOP / "README.md", *sorted((TOP / "docs").rglob("*.md"))]:
         for name in re.findall(r"(?<![\w/.])(?:crates/)?(\w+/(?:src|specs|proofs)/[\w/+]+\.(?:rt|antt))", page.read_text()):
             if not (TOP / "crates" / name).is_file():
                 bad.append(f"{page.relative_to(TOP)} names {name}, which isn't there")
@@ -212,6 +237,7 @@ TESTS = [
     contracts_and_definitions_cite_no_proof,
     every_crate_is_in_the_readme,
     the_width_stands_once,
+    the_panels_numbers_agree,
     no_axioms_and_no_holes,
     every_definition_file_says_what_it_states,
     no_public_function_without_a_contract,

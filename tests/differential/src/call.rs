@@ -6,10 +6,11 @@ use crate::slices::{
 };
 use capeshard::calls;
 use reference::check::check;
+use reference::panel;
 use reference::rewrite::rewrite;
-use reference::run::run;
+use reference::run::{run, Answer};
 use reference::text::{read_database, read_query};
-use reference::value::{refuse, Refusal, NODES};
+use reference::value::{refuse, Database, Query, Refusal, NODES};
 
 #[derive(Clone, Copy, Debug)]
 pub enum Call {
@@ -19,6 +20,11 @@ pub enum Call {
     Rewrite { limit: usize, kind: u32, node: u32 },
     Compile { limit: usize },
     Run { limit: usize, rows: usize, budget: u32 },
+    PanelReadQuery,
+    PanelCheck,
+    PanelRewrite { kind: u32, node: u32 },
+    PanelCompile,
+    PanelRun { budget: u32 },
 }
 
 /// Entries on both sides of each lent slice, which no call may touch.
@@ -82,6 +88,31 @@ impl Call {
                     told.0,
                     told.1,
                 ),
+                Call::PanelReadQuery => calls::capeshard_panel_read_query(text.as_ptr(), text.len(), query.0, query.1),
+                Call::PanelCheck => {
+                    calls::capeshard_panel_check(query.0, query.1, database.0, database.1, store.0, store.1)
+                }
+                Call::PanelRewrite { kind, node } => calls::capeshard_panel_rewrite(
+                    query.0, query.1, database.0, database.1, store.0, store.1, kind, node,
+                ),
+                Call::PanelCompile => calls::capeshard_panel_compile(
+                    query.0, query.1, database.0, database.1, store.0, store.1, plan.0, plan.1,
+                ),
+                Call::PanelRun { budget } => calls::capeshard_panel_run(
+                    query.0,
+                    query.1,
+                    database.0,
+                    database.1,
+                    store.0,
+                    store.1,
+                    budget,
+                    workspace.0,
+                    workspace.1,
+                    answer.0,
+                    answer.1,
+                    told.0,
+                    told.1,
+                ),
             }
         };
         for (slice, held) in slices.into_iter().zip(held) {
@@ -94,59 +125,82 @@ impl Call {
         }
     }
 
+    /// A flat slice is below its room.
+    fn short(self, lent: &Slices) -> bool {
+        let query = lent.query.len() < QUERY_ROOM;
+        let either = query || lent.database.len() < DATABASE_ROOM;
+        match self {
+            Call::ReadQuery { .. } | Call::PanelReadQuery => query,
+            Call::ReadDatabase => lent.database.len() < DATABASE_ROOM,
+            Call::Check { .. } | Call::Rewrite { .. } | Call::PanelCheck | Call::PanelRewrite { .. } => either,
+            Call::Compile { .. } | Call::PanelCompile => either || lent.plan.len() < PLAN_ROOM,
+            Call::Run { .. } | Call::PanelRun { .. } => either || lent.told.len() < RUN_ROOM,
+        }
+    }
+
     /// What the reference replies, and what the slices are to hold then.
     pub fn by_reference(self, lent: &mut Slices) -> Result<(), Refusal> {
-        let short = match self {
-            Call::ReadQuery { .. } => lent.query.len() < QUERY_ROOM,
-            Call::ReadDatabase => lent.database.len() < DATABASE_ROOM,
-            Call::Check { .. } | Call::Rewrite { .. } => {
-                lent.query.len() < QUERY_ROOM || lent.database.len() < DATABASE_ROOM
-            }
-            Call::Compile { .. } => {
-                lent.query.len() < QUERY_ROOM || lent.database.len() < DATABASE_ROOM || lent.plan.len() < PLAN_ROOM
-            }
-            Call::Run { .. } => {
-                lent.query.len() < QUERY_ROOM || lent.database.len() < DATABASE_ROOM || lent.told.len() < RUN_ROOM
-            }
-        };
-        if short {
+        if self.short(lent) {
             return refuse(17, 0);
         }
         match self {
-            Call::ReadQuery { limit } => {
-                let query = read_query(&lent.text, limit.min(NODES))?;
-                over(&flat_query(query.lines()), &mut lent.query);
-            }
+            Call::ReadQuery { limit } => put_query(read_query(&lent.text, limit.min(NODES))?, lent),
             Call::ReadDatabase => {
                 let database = read_database(&lent.text, &lent.store)?;
                 over(&flat_database(&database), &mut lent.database);
                 lent.store = database.store;
             }
             Call::Check { limit } => {
-                let database = database_of(&lent.database, &lent.store);
+                let (database, query) = given(lent, limit);
                 database.form()?;
-                check(&query_of(&lent.query, limit), database.schema())?;
+                check(&query, database.schema())?;
             }
             Call::Rewrite { limit, kind, node } => {
-                let database = database_of(&lent.database, &lent.store);
-                let rewritten = rewrite(&database, &query_of(&lent.query, limit), kind, node)?;
-                over(&flat_query(rewritten.lines()), &mut lent.query);
+                let (database, query) = given(lent, limit);
+                put_query(rewrite(&database, &query, kind, node)?, lent);
             }
             Call::Compile { limit } => {
-                let database = database_of(&lent.database, &lent.store);
+                let (database, query) = given(lent, limit);
                 database.form()?;
-                let checked = check(&query_of(&lent.query, limit), database.schema())?;
-                over(&flat_plan(&checked), &mut lent.plan);
+                over(&flat_plan(&check(&query, database.schema())?), &mut lent.plan);
             }
             Call::Run { limit, rows, budget } => {
-                let database = database_of(&lent.database, &lent.store);
-                let query = query_of(&lent.query, limit);
+                let (database, query) = given(lent, limit);
                 // A limit that the reference's number cannot hold is as much too high as its highest.
                 let rows = u32::try_from(rows).unwrap_or(u32::MAX);
-                let told = run(&database, &query, rows, budget, &mut lent.workspace, &mut lent.answer)?;
-                over(&[bits_of(&told.columns), told.rows, told.ran], &mut lent.told);
+                put_told(run(&database, &query, rows, budget, &mut lent.workspace, &mut lent.answer)?, lent);
+            }
+            Call::PanelReadQuery => put_query(panel::read(&lent.text)?, lent),
+            Call::PanelCheck => {
+                let (database, query) = given(lent, NODES);
+                panel::check(&database, &query)?;
+            }
+            Call::PanelRewrite { kind, node } => {
+                let (database, query) = given(lent, NODES);
+                put_query(panel::rewrite(&database, &query, kind, node)?, lent);
+            }
+            Call::PanelCompile => {
+                let (database, query) = given(lent, NODES);
+                over(&flat_plan(&panel::check(&database, &query)?), &mut lent.plan);
+            }
+            Call::PanelRun { budget } => {
+                let (database, query) = given(lent, NODES);
+                put_told(panel::run(&database, &query, budget, &mut lent.workspace, &mut lent.answer)?, lent);
             }
         }
         Ok(())
     }
+}
+
+/// The database and the query in slices with room for them; `limit` is the highest node count taken.
+fn given(lent: &Slices, limit: usize) -> (Database, Query) {
+    (database_of(&lent.database, &lent.store), query_of(&lent.query, limit))
+}
+
+fn put_query(query: Query, lent: &mut Slices) {
+    over(&flat_query(query.lines()), &mut lent.query);
+}
+
+fn put_told(told: Answer, lent: &mut Slices) {
+    over(&[bits_of(&told.columns), told.rows, told.ran], &mut lent.told);
 }

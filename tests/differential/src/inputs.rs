@@ -1,10 +1,12 @@
 //! The calls of one seed, on inputs of the reference's generators.
 
+use crate::at::At;
 use crate::call::Call;
 use crate::slices::{flat_database, flat_query, Slices, DATABASE_ROOM, LINE, PLAN_ROOM, QUERY_ROOM, RUN_ROOM, TABLE};
 use reference::algebra::{Columns, Pairing, Relation};
 use reference::check::check;
 use reference::damage;
+use reference::panel;
 use reference::plan::{execute, plan};
 use reference::random::{self, Random};
 use reference::rewrite::{apply, rewrite};
@@ -19,20 +21,82 @@ const FITTING: usize = 6;
 /// Row limit and budget of the run that tells what others need.
 const FREE: (usize, u32) = (400, 4000);
 
+impl At {
+    fn read_query(self, random: &mut Random, nodes: usize) -> Call {
+        match self {
+            At::Desk => Call::ReadQuery { limit: limit(random, nodes) },
+            At::Panel => Call::PanelReadQuery,
+        }
+    }
+
+    fn check(self, random: &mut Random, nodes: usize) -> Call {
+        match self {
+            At::Desk => Call::Check { limit: limit(random, nodes) },
+            At::Panel => Call::PanelCheck,
+        }
+    }
+
+    fn rewrite(self, random: &mut Random, nodes: usize, (kind, node): (u32, u32)) -> Call {
+        match self {
+            At::Desk => Call::Rewrite { limit: limit(random, nodes), kind, node },
+            At::Panel => Call::PanelRewrite { kind, node },
+        }
+    }
+
+    fn compile(self, random: &mut Random, nodes: usize) -> Call {
+        match self {
+            At::Desk => Call::Compile { limit: limit(random, nodes) },
+            At::Panel => Call::PanelCompile,
+        }
+    }
+}
+
 pub fn inputs(random: &mut Random) -> Vec<Input> {
+    let (database, query) = for_desk(random);
+    let mut found = database_texts(random, &database);
+    found.extend(queries(random, At::Desk, &query, &database));
+    let (database, query) = for_panel(random);
+    found.extend(queries(random, At::Panel, &query, &database));
+    found
+}
+
+fn queries(random: &mut Random, at: At, query: &Query, database: &Database) -> Vec<Input> {
+    let mut found = query_texts(random, at, query);
+    found.extend(checks(random, at, query, database));
+    found.extend(rewrites(random, at, query, database));
+    found.extend(runs(random, at, query, database));
+    found.extend(compiles(random, at, query, database));
+    found
+}
+
+fn for_desk(random: &mut Random) -> (Database, Query) {
     let mut database = random::database(random);
     if random.once_in(8) {
         database = denser(random, &database);
     }
     let query =
         if random.once_in(6) { joined(random, &database) } else { random::query(random, database.schema(), NODES) };
-    let mut found = query_texts(random, &query);
-    found.extend(database_texts(random, &database));
-    found.extend(checks(random, &query, &database));
-    found.extend(rewrites(random, &query, &database));
-    found.extend(runs(random, &query, &database));
-    found.extend(compiles(random, &query, &database));
-    found
+    (database, query)
+}
+
+/// A database and a checked query, half of them at a limit of the panel: 31 to 34 nodes, a register of 63 to 66 rows or
+/// tables of so many.
+pub fn for_panel(random: &mut Random) -> (Database, Query) {
+    let rows = panel::ROW_LIMIT - 1 + random.below(4) as u32;
+    let (mut database, query) = random::query_of_rows(random, rows);
+    if random.once_in(4) {
+        return (database, query);
+    }
+    if !random.once_in(8) {
+        database = random::database(random);
+    }
+    let nodes = panel::NODES - 1 + random.below(4);
+    let query = match random.below(4) {
+        0 => random::query_of(random, database.schema(), nodes),
+        1 => random::query_of_fixes(random, database.schema(), nodes),
+        _ => random::query(random, database.schema(), NODES),
+    };
+    (database, query)
 }
 
 /// Several checked queries joined, their fixes numbered apart as long as there are numbers.
@@ -127,9 +191,9 @@ fn limit(random: &mut Random, nodes: usize) -> usize {
     }
 }
 
-fn query_texts(random: &mut Random, query: &Query) -> Vec<Input> {
+fn query_texts(random: &mut Random, at: At, query: &Query) -> Vec<Input> {
     let printed = print_query(query);
-    let count = if random.once_in(8) { NODES - 1 + random.below(4) } else { random.below(30) };
+    let count = if random.once_in(8) { at.nodes() - 1 + random.below(4) } else { random.below(30) };
     let lines: Vec<Node> = (0..count).map(|_| random::node(random)).collect();
     let any = print_query(&Query::new(&lines, count));
     let once = damage::text(random, &printed);
@@ -141,7 +205,7 @@ fn query_texts(random: &mut Random, query: &Query) -> Vec<Input> {
         .map(|text| {
             let nodes = if random.once_in(2) { count } else { query.count as usize };
             let query = lent(random, &[], QUERY_ROOM);
-            (Call::ReadQuery { limit: limit(random, nodes) }, Slices { text, query, ..Slices::default() })
+            (at.read_query(random, nodes), Slices { text, query, ..Slices::default() })
         })
         .collect()
 }
@@ -181,7 +245,7 @@ fn over(random: &mut Random, query: &Query, database: &Database) -> Slices {
 
 /// Puts numbers at and past the ends of ranges into the first entries of a slice.
 fn harm(random: &mut Random, slice: &mut [u32], used: usize) {
-    const NUMBERS: [u32; 16] = [0, 1, 2, 5, 7, 8, 13, 14, 15, 16, 128, 129, 255, 256, 1 << 31, u32::MAX];
+    const NUMBERS: [u32; 18] = [0, 1, 2, 5, 7, 8, 13, 14, 15, 16, 32, 33, 128, 129, 255, 256, 1 << 31, u32::MAX];
     for _ in 0..1 + random.below(3) {
         let at = if random.once_in(8) { 0 } else { random.below(used.min(slice.len()).max(1)) };
         if let Some(entry) = slice.get_mut(at) {
@@ -210,7 +274,7 @@ fn damaged(random: &mut Random, query: &Query, database: &Database) -> Slices {
     slices
 }
 
-fn checks(random: &mut Random, query: &Query, database: &Database) -> Vec<Input> {
+fn checks(random: &mut Random, at: At, query: &Query, database: &Database) -> Vec<Input> {
     let nodes = query.count as usize;
     let lines: Vec<Node> = (0..1 + random.below(12)).map(|_| random::node(random)).collect();
     let any = Query::new(&lines, NODES);
@@ -220,28 +284,28 @@ fn checks(random: &mut Random, query: &Query, database: &Database) -> Vec<Input>
     found.extend((0..4).map(|_| damaged(random, query, database)));
     let large = large(random);
     found.push(over(random, query, &large));
-    found.into_iter().map(|slices| (Call::Check { limit: limit(random, nodes) }, slices)).collect()
+    found.into_iter().map(|slices| (at.check(random, nodes), slices)).collect()
 }
 
 /// Steps one after another, each over another database with the same columns, and some on damaged slices.
-fn rewrites(random: &mut Random, query: &Query, database: &Database) -> Vec<Input> {
+fn rewrites(random: &mut Random, at: At, query: &Query, database: &Database) -> Vec<Input> {
     let mut found = Vec::new();
     let mut held = query.clone();
+    let nodes = query.count as usize;
     for _ in 0..3 {
         for (kind, node) in random::steps(random, &held) {
             let other = random::with_columns_of(random, database);
-            let limit = limit(random, held.count as usize);
-            found.push((Call::Rewrite { limit, kind, node }, over(random, &held, &other)));
+            found.push((at.rewrite(random, nodes, (kind, node)), over(random, &held, &other)));
             if let Ok(rewritten) = rewrite(&other, &held, kind, node) {
                 held = rewritten;
             }
         }
     }
-    for (kind, node) in fitting(random, query, database) {
-        found.push((Call::Rewrite { limit: NODES, kind, node }, over(random, query, database)));
+    for step in fitting(random, query, database) {
+        found.push((at.rewrite(random, nodes, step), over(random, query, database)));
     }
-    for (kind, node) in random::steps(random, &held) {
-        found.push((Call::Rewrite { limit: NODES, kind, node }, damaged(random, &held, database)));
+    for step in random::steps(random, &held) {
+        found.push((at.rewrite(random, nodes, step), damaged(random, &held, database)));
     }
     found
 }
@@ -261,7 +325,7 @@ fn fitting(random: &mut Random, query: &Query, database: &Database) -> Vec<(u32,
 }
 
 /// Plans of the query as given, with steps and with edits; most slices have the room, some one entry less.
-fn compiles(random: &mut Random, query: &Query, database: &Database) -> Vec<Input> {
+fn compiles(random: &mut Random, at: At, query: &Query, database: &Database) -> Vec<Input> {
     let mut found = vec![over(random, query, database)];
     for _ in 0..3 {
         let query = again(random, query, database);
@@ -269,19 +333,19 @@ fn compiles(random: &mut Random, query: &Query, database: &Database) -> Vec<Inpu
     }
     found.push(damaged(random, query, database));
     let compile = |slices: Slices| {
-        let limit = limit(random, slices.query.first().map_or(0, |count| *count as usize));
+        let call = at.compile(random, slices.query.first().map_or(0, |count| *count as usize));
         let plan = lent(random, &[], PLAN_ROOM);
-        (Call::Compile { limit }, Slices { plan, ..slices })
+        (call, Slices { plan, ..slices })
     };
     found.into_iter().map(compile).collect()
 }
 
-fn runs(random: &mut Random, query: &Query, database: &Database) -> Vec<Input> {
+fn runs(random: &mut Random, at: At, query: &Query, database: &Database) -> Vec<Input> {
     let mut found = Vec::new();
     for round in 0..6 {
         let query = if round == 0 { query.clone() } else { again(random, query, database) };
         let slices = if random.once_in(8) { damaged(random, &query, database) } else { over(random, &query, database) };
-        found.push(run(random, &query, database, slices));
+        found.push(run(random, at, &query, database, slices));
     }
     found
 }
@@ -296,18 +360,13 @@ fn again(random: &mut Random, query: &Query, database: &Database) -> Query {
 }
 
 /// Row limit, budget and slices at, below and above what the run needs.
-fn run(random: &mut Random, query: &Query, database: &Database, slices: Slices) -> Input {
+fn run(random: &mut Random, at: At, query: &Query, database: &Database, slices: Slices) -> Input {
     let plan = check(query, database.schema()).ok().map(|checked| plan(&checked.root));
     let free = plan.as_ref().and_then(|plan| execute(plan, &database.relations(), FREE.0, FREE.1).ok());
     let (peak, ran) = free.as_ref().map_or((6, 20), |free| (free.peak, free.ran));
-    let rows = match random.below(16) {
-        0 => [0, TABLE_ROWS as usize + 1, u32::MAX as usize, usize::MAX, 1 << 61][random.below(5)],
-        1 => random.next() as usize,
-        2..=4 => peak,
-        5 => peak.saturating_sub(1),
-        6 => random.below(peak + 1),
-        7 if random.once_in(8) => TABLE_ROWS as usize,
-        _ => peak + 1 + random.below(20),
+    let rows = match at {
+        At::Desk => row_limit(random, peak),
+        At::Panel => panel::ROW_LIMIT as usize,
     };
     let budget = match random.below(8) {
         0 => ran,
@@ -317,10 +376,11 @@ fn run(random: &mut Random, query: &Query, database: &Database, slices: Slices) 
     };
     let registers = plan.as_ref().map_or(4, |plan| plan.registers);
     let room = if rows <= TABLE_ROWS as usize { workspace_entries(registers, rows as u32) } else { 0 };
-    let workspace = match random.below(10) {
-        0 => room.saturating_sub(1),
-        1 => random.below(room + 1),
-        2 => room + random.below(40),
+    let workspace = match (random.below(10), at) {
+        (0, _) => room.saturating_sub(1),
+        (1, _) => random.below(room + 1),
+        (2, _) => room + random.below(40),
+        (3, At::Panel) => panel::WORKSPACE,
         _ => room,
     };
     let answered = plan.zip(free).map_or(20, |(plan, free)| COLUMNS * free.registers[plan.result].len());
@@ -331,7 +391,22 @@ fn run(random: &mut Random, query: &Query, database: &Database, slices: Slices) 
         _ => answered + random.below(100),
     };
     let (workspace, answer) = (random.fill(workspace), random.fill(answer));
-    let limit = limit(random, query.count as usize);
+    let call = match at {
+        At::Desk => Call::Run { limit: limit(random, query.count as usize), rows, budget },
+        At::Panel => Call::PanelRun { budget },
+    };
     let told = lent(random, &[], RUN_ROOM);
-    (Call::Run { limit, rows, budget }, Slices { workspace, answer, told, ..slices })
+    (call, Slices { workspace, answer, told, ..slices })
+}
+
+fn row_limit(random: &mut Random, peak: usize) -> usize {
+    match random.below(16) {
+        0 => [0, TABLE_ROWS as usize + 1, u32::MAX as usize, usize::MAX, 1 << 61][random.below(5)],
+        1 => random.next() as usize,
+        2..=4 => peak,
+        5 => peak.saturating_sub(1),
+        6 => random.below(peak + 1),
+        7 if random.once_in(8) => TABLE_ROWS as usize,
+        _ => peak + 1 + random.below(20),
+    }
 }

@@ -2,6 +2,7 @@
 //! on. A case is one call: the reply and all lent slices afterwards. A difference prints its seed and both sides. Then the
 //! rows and lines run of each workload of bench/. The last line is 'N passed, M failed'.
 
+mod at;
 mod call;
 mod inputs;
 mod measured;

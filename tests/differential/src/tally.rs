@@ -2,23 +2,30 @@
 
 use crate::call::Call;
 use crate::slices::Slices;
+use reference::panel;
 use reference::value::Refusal;
 use std::fmt::Debug;
 
 /// Differences that are printed in full.
 const SHOWN: u64 = 20;
 
+/// Calls of the header that are made at the desk; those after them are the panel's.
+const DESK_CALLS: usize = 6;
+const CALLS: usize = 11;
+
 #[derive(Default)]
 pub struct Tally {
     pub seed: u64,
     pub passed: u64,
     pub failed: u64,
-    /// Accepted calls in the header's order, accepted rewrites by kind, refusals by number.
-    accepted: [u64; 6],
-    kinds: [u64; 7],
-    numbers: [u64; 20],
-    /// The most nodes, rows and lines run of a finished run.
-    most: [u32; 3],
+    /// Accepted calls in the header's order.
+    accepted: [u64; CALLS],
+    /// At desk and panel: accepted rewrites by kind, refusals by number, and those of runs.
+    kinds: [[u64; 7]; 2],
+    numbers: [[u64; 20]; 2],
+    runs: [[u64; 20]; 2],
+    /// The most nodes, rows and lines run of a finished run at desk and panel.
+    most: [[u32; 3]; 2],
 }
 
 impl Tally {
@@ -44,35 +51,54 @@ impl Tally {
             Call::Rewrite { .. } => 3,
             Call::Compile { .. } => 4,
             Call::Run { .. } => 5,
+            Call::PanelReadQuery => 6,
+            Call::PanelCheck => 7,
+            Call::PanelRewrite { .. } => 8,
+            Call::PanelCompile => 9,
+            Call::PanelRun { .. } => 10,
         };
+        let at = usize::from(sort >= DESK_CALLS);
         match reply {
-            Err(refusal) => self.numbers[refusal.number as usize] += 1,
+            Err(refusal) => self.numbers[at][refusal.number as usize] += 1,
             Ok(()) => self.accepted[sort] += 1,
         }
         match (reply, call) {
-            (Ok(()), Call::Rewrite { kind, .. }) => self.kinds[kind as usize] += 1,
-            (Ok(()), Call::Run { .. }) => {
+            (Ok(()), Call::Rewrite { kind, .. } | Call::PanelRewrite { kind, .. }) => {
+                self.kinds[at][kind as usize] += 1;
+            }
+            (Ok(()), Call::Run { .. } | Call::PanelRun { .. }) => {
                 let finished = [slices.query[0], slices.told[1], slices.told[2]];
-                self.most = [0, 1, 2].map(|index| self.most[index].max(finished[index]));
+                self.most[at] = [0, 1, 2].map(|index| self.most[at][index].max(finished[index]));
+            }
+            (Err(refusal), Call::Run { .. } | Call::PanelRun { .. }) => {
+                self.runs[at][refusal.number as usize] += 1;
             }
             _ => {}
         }
     }
 
     pub fn print_met(&self) {
-        let (kinds, numbers) = (&self.kinds[1..], &self.numbers[1..]);
-        println!("accepted by call {:?}, rewrites by kind {kinds:?}, refused by number {numbers:?}", self.accepted);
-        let [nodes, rows, ran] = self.most;
-        println!("finished runs of up to {nodes} nodes, {rows} rows and {ran} lines run");
+        println!("accepted by call {:?}", self.accepted);
+        for (at, name) in ["desk", "panel"].into_iter().enumerate() {
+            let (kinds, numbers, runs) = (&self.kinds[at][1..], &self.numbers[at][1..], &self.runs[at][1..]);
+            println!("{name}: rewrites by kind {kinds:?}, refused by number {numbers:?}, of these runs {runs:?}");
+            let [nodes, rows, ran] = self.most[at];
+            println!("{name}: finished runs of up to {nodes} nodes, {rows} rows and {ran} lines run");
+        }
     }
 
-    /// A case of its own: every call and kind was accepted and every number given.
+    /// A case of its own: every call was accepted and at desk and panel every kind; every number was given, 16 never at the
+    /// panel; runs were refused over each limit, and at the panel some finished with the most nodes and rows.
     pub fn all_met(&mut self) {
-        let met = self.accepted.iter().chain(&self.kinds[1..]).chain(&self.numbers[1..]).all(|times| *times > 0);
-        if met {
+        let accepted = self.accepted.iter().chain(self.kinds.iter().flat_map(|kinds| &kinds[1..]));
+        let given = self.numbers[0][1..].iter();
+        let refused = self.runs.iter().flat_map(|runs| [2, 17, 18, 19].map(|number| &runs[number]));
+        let met = accepted.chain(given).chain(refused).all(|times| *times > 0);
+        let most = self.most[1][..2] == [panel::NODES as u32, panel::ROW_LIMIT];
+        if met && self.numbers[1][16] == 0 && most {
             self.passed += 1;
         } else {
-            println!("FAILED every call and kind is accepted and every number given");
+            println!("FAILED every call and kind is accepted, every number given and every limit met");
             self.failed += 1;
         }
     }

@@ -1,15 +1,18 @@
 //! The same through the safe wrapper of bindings/rust, whose slices always have their room.
 
+use crate::at::At;
+use crate::inputs::for_panel;
 use crate::slices::operand_columns;
 use crate::tally::Tally;
 use capeshard::{Answer, Line, Op, Operands, PlanLine, Table};
 use reference::algebra::{Columns, Condition, Pairing};
 use reference::check::{check, Checked};
 use reference::damage;
+use reference::panel;
 use reference::plan::{self, plan, Operation};
 use reference::random::{self, Random};
 use reference::rewrite::rewrite;
-use reference::run::{run, workspace_entries};
+use reference::run::{self, run, workspace_entries};
 use reference::text::{print_database, print_query, read_database, read_query};
 use reference::value::{Database, Node, Query, Refusal, COLUMNS, NODES, TABLE_ROWS};
 
@@ -93,61 +96,119 @@ fn exchanged(random: &mut Random, database: &Database) -> Database {
     exchanged
 }
 
-fn expected_run(database: &Database, query: &Query, rows: usize, budget: u32) -> Result<Answer, Refusal> {
+fn answer_of(told: run::Answer, slots: &[u32]) -> Answer {
+    let columns: Vec<usize> = told.columns.iter().map(|column| usize::from(*column)).collect();
+    let values = |row: &[u32]| columns.iter().map(|column| row[*column]).collect();
+    let rows = slots.chunks(COLUMNS).take(told.rows as usize).map(values).collect();
+    Answer { columns, rows, ran: told.ran }
+}
+
+fn desk_run(database: &Database, query: &Query, rows: usize, budget: u32) -> Result<Answer, Refusal> {
     let registers = check(query, database.schema()).map_or(0, |checked| plan(&checked.root).registers);
     let room = if rows <= TABLE_ROWS as usize { rows } else { 0 };
     let mut workspace = vec![0; workspace_entries(registers, room as u32)];
     let mut slots = vec![0; COLUMNS * room];
     let told = run(database, query, rows as u32, budget, &mut workspace, &mut slots)?;
-    let columns: Vec<usize> = told.columns.iter().map(|column| usize::from(*column)).collect();
-    let values = |row: &[u32]| columns.iter().map(|column| row[*column]).collect();
-    let rows = slots.chunks(COLUMNS).take(told.rows as usize).map(values).collect();
-    Ok(Answer { columns: columns.clone(), rows, ran: told.ran })
+    Ok(answer_of(told, &slots))
+}
+
+fn panel_run(database: &Database, query: &Query, budget: u32) -> Result<Answer, Refusal> {
+    let mut workspace = vec![0; panel::WORKSPACE];
+    let mut slots = vec![0; COLUMNS * panel::ROW_LIMIT as usize];
+    let told = panel::run(database, query, budget, &mut workspace, &mut slots)?;
+    Ok(answer_of(told, &slots))
+}
+
+fn checked(at: At, database: &Database, query: &Query) -> Result<Checked, Refusal> {
+    match at {
+        At::Desk => database.form().and_then(|()| check(query, database.schema())),
+        At::Panel => panel::check(database, query),
+    }
+}
+
+fn shown(text: &[u8]) -> String {
+    String::from_utf8_lossy(text).into_owned()
 }
 
 pub fn cases(random: &mut Random, tally: &mut Tally) {
-    let mut database = random::database(random);
-    let mut query = random::query(random, database.schema(), NODES);
+    let (mut database, mut query) = if random.once_in(3) {
+        for_panel(random)
+    } else {
+        let database = random::database(random);
+        let query = random::query(random, database.schema(), NODES);
+        (database, query)
+    };
     if random.once_in(3) {
         query = damage::query(random, &query);
     }
-    let (mut sheet, mut book) = (print_query(&query), print_database(&database));
+    texts(random, tally, print_query(&query), print_database(&database));
+    if random.once_in(6) {
+        database = exchanged(random, &database);
+    }
+    values(random, tally, &database, query);
+}
+
+fn texts(random: &mut Random, tally: &mut Tally, mut sheet: Vec<u8>, mut book: Vec<u8>) {
     if random.once_in(2) {
         sheet = damage::text(random, &sheet);
         book = damage::text(random, &book);
     }
-    let shown = |text: &[u8]| String::from_utf8_lossy(text).into_owned();
-    let expected = read_query(&sheet, NODES).map(|query| lines_of(&query));
-    let found = capeshard::Query::read(&sheet).map(|query| query.lines()).map_err(given);
-    tally.case(|| format!("Query::read {:?}", shown(&sheet)), &expected, &found);
+    for at in At::BOTH {
+        let (expected, found) = match at {
+            At::Desk => (read_query(&sheet, NODES), capeshard::Query::read(&sheet)),
+            At::Panel => (panel::read(&sheet), capeshard::panel::read(&sheet)),
+        };
+        let expected = expected.map(|query| lines_of(&query));
+        let found = found.map(|query| query.lines()).map_err(given);
+        tally.case(|| format!("{at:?}: read {:?}", shown(&sheet)), &expected, &found);
+    }
     let store = vec![0; COLUMNS * book.len()];
     let expected = read_database(&book, &store).map(|_| ());
     let found = capeshard::Database::read(&book).map(|_| ()).map_err(given);
     tally.case(|| format!("Database::read {:?}", shown(&book)), &expected, &found);
+}
 
-    if random.once_in(6) {
-        database = exchanged(random, &database);
-    }
-    let stored = capeshard::Database::of(&tables_of(&database)).expect("the tables have a place");
+/// One query through desk and panel; each step is made at one of them.
+fn values(random: &mut Random, tally: &mut Tally, database: &Database, mut query: Query) {
+    let stored = capeshard::Database::of(&tables_of(database)).expect("the tables have a place");
     let mut held = capeshard::Query::of(&lines_of(&query)).expect("the lines have a place");
-    let told = |query: &Query, database: &Database| format!("{:?} over {database:?}", shown(&print_query(query)));
-    let expected = database.form().and_then(|()| check(&query, database.schema())).map(|_| ());
-    tally.case(|| format!("check {}", told(&query, &database)), &expected, &held.check(&stored).map_err(given));
-    for (kind, node) in random::steps(random, &query) {
-        let before = query.clone();
-        let expected = rewrite(&database, &query, kind, node);
-        if let Ok(rewritten) = &expected {
-            query = rewritten.clone();
-        }
-        let expected = (expected.map(|_| ()), lines_of(&query));
-        let found = (held.rewrite(&stored, kind, node).map_err(given), held.lines());
-        tally.case(|| format!("rewrite {kind},{node} of {}", told(&before, &database)), &expected, &found);
+    let told = |query: &Query| format!("{:?} over {database:?}", shown(&print_query(query)));
+    for at in At::BOTH {
+        let expected = checked(at, database, &query).map(|_| ());
+        let found = match at {
+            At::Desk => held.check(&stored),
+            At::Panel => capeshard::panel::check(&held, &stored),
+        };
+        tally.case(|| format!("{at:?}: check {}", told(&query)), &expected, &found.map_err(given));
     }
-    let expected = database.form().and_then(|()| check(&query, database.schema())).map(|checked| plan_of(&checked));
-    tally.case(|| format!("compile {}", told(&query, &database)), &expected, &held.compile(&stored).map_err(given));
+    for (kind, node) in random::steps(random, &query) {
+        let at = At::BOTH[random.below(2)];
+        let before = query.clone();
+        let (expected, found) = match at {
+            At::Desk => (rewrite(database, &query, kind, node), held.rewrite(&stored, kind, node)),
+            At::Panel => (
+                panel::rewrite(database, &query, kind, node),
+                capeshard::panel::rewrite(&mut held, &stored, kind, node),
+            ),
+        };
+        let expected = expected.map(|rewritten| query = rewritten);
+        let (expected, found) = ((expected, lines_of(&query)), (found.map_err(given), held.lines()));
+        tally.case(|| format!("{at:?}: rewrite {kind},{node} of {}", told(&before)), &expected, &found);
+    }
+    for at in At::BOTH {
+        let expected = checked(at, database, &query).map(|checked| plan_of(&checked));
+        let found = match at {
+            At::Desk => held.compile(&stored),
+            At::Panel => capeshard::panel::compile(&held, &stored),
+        };
+        tally.case(|| format!("{at:?}: compile {}", told(&query)), &expected, &found.map_err(given));
+    }
     let rows = [1 + random.below(12), 24, 40, random.below(5), 4096 + random.below(3)][random.below(5)];
     let budget = if random.once_in(4) { random.below(30) as u32 } else { u32::MAX };
-    let expected = expected_run(&database, &query, rows, budget);
+    let expected = desk_run(database, &query, rows, budget);
     let found = held.run(&stored, rows, budget).map_err(given);
-    tally.case(|| format!("run {rows},{budget} of {}", told(&query, &database)), &expected, &found);
+    tally.case(|| format!("Desk: run {rows},{budget} of {}", told(&query)), &expected, &found);
+    let expected = panel_run(database, &query, budget);
+    let found = capeshard::panel::run(&held, &stored, budget).map_err(given);
+    tally.case(|| format!("Panel: run {budget} of {}", told(&query)), &expected, &found);
 }

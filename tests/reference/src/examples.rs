@@ -1,32 +1,33 @@
 //! Worked examples: the starred cases, and what the cases of `answer` do not show (exact queries and plans, lent slices).
 
+mod on_the_panel;
+
 use crate::algebra::{Columns, Pairing, Relation};
 use crate::answer::{BUDGET, ROW_LIMIT};
 use crate::check::check;
 use crate::plan::{plan, Line, Operation};
 use crate::rewrite::rewrite;
-use crate::run::{run, workspace_entries};
+use crate::run::{run, workspace_entries, Answer};
 use crate::selfcheck::Outcome;
-use crate::text::read_node;
-use crate::value::{Database, Node, Query, Refusal, COLUMNS};
+use crate::text::nodes;
+use crate::value::{Database, Query, Refusal, COLUMNS};
 
 pub fn examples() -> Vec<Outcome> {
     let outcome = |(name, holds): (&str, bool)| {
         let result = if holds { Ok(String::new()) } else { Err("does not hold".to_string()) };
         (format!("example: {name}"), result)
     };
-    [starred(), exact_queries(), exact_plans(), lent()].concat().into_iter().map(outcome).collect()
-}
-
-fn lines(text: &str) -> Vec<Node> {
-    let read = |line| read_node(str::as_bytes(line)).expect("a line on the form");
-    text.split_whitespace().map(read).collect()
+    [starred(), exact_queries(), exact_plans(), lent(), on_the_panel::examples()]
+        .concat()
+        .into_iter()
+        .map(outcome)
+        .collect()
 }
 
 const REACH: &str = "table=0 var=1 copy=1,2 drop=1 table=0 copy=0,2 drop=0 pair=join drop=2 fix=1";
 
 fn reach_and(more: &str) -> Query {
-    Query::new(&lines(&format!("{REACH} {more}")), 128)
+    Query::new(&nodes(&format!("{REACH} {more}")), 128)
 }
 
 fn table(columns: [u8; 2], rows: &[[u32; 2]]) -> (Columns, Relation) {
@@ -39,14 +40,16 @@ fn doors(rows: &[[u32; 2]]) -> Database {
 
 fn run_of(database: &Database, query: &Query, row_limit: u32, budget: u32) -> Result<(Vec<u32>, u32), u32> {
     let mut workspace = vec![1; workspace_entries(2 * query.nodes.len(), row_limit.min(4096))];
-    let mut slots = vec![9; COLUMNS * 40];
-    match run(database, query, row_limit, budget, &mut workspace, &mut slots) {
-        Ok(finished) => {
-            let row = |slots: &[u32]| finished.columns.iter().map(|c| slots[usize::from(*c)]).collect::<Vec<_>>();
-            Ok((slots.chunks(COLUMNS).take(finished.rows as usize).flat_map(row).collect(), finished.ran))
-        }
-        Err(refusal) => Err(refusal.number),
-    }
+    // Room for the answer of every example.
+    let mut slots = vec![9; COLUMNS * 80];
+    let told = run(database, query, row_limit, budget, &mut workspace, &mut slots);
+    told.map(|told| values(&told, &slots)).map_err(|refusal| refusal.number)
+}
+
+/// The values of the rows, a column after the other, and the lines run.
+fn values(told: &Answer, slots: &[u32]) -> (Vec<u32>, u32) {
+    let row = |slots: &[u32]| told.columns.iter().map(|c| slots[usize::from(*c)]).collect::<Vec<_>>();
+    (slots.chunks(COLUMNS).take(told.rows as usize).flat_map(row).collect(), told.ran)
 }
 
 fn starred() -> Vec<(&'static str, bool)> {
@@ -78,12 +81,12 @@ fn starred() -> Vec<(&'static str, bool)> {
 fn exact_queries() -> Vec<(&'static str, bool)> {
     let database = doors(&[[1, 2], [2, 3]]);
     let becomes = |before: &str, kind: u32, node: u32, after: &str| {
-        let query = Query::new(&lines(before), 128);
+        let query = Query::new(&nodes(before), 128);
         let rewritten = rewrite(&database, &query, kind, node);
-        rewritten == Ok(Query::new(&lines(after), 128))
+        rewritten == Ok(Query::new(&nodes(after), 128))
     };
     let gives = |before: &str, kind: u32, node: u32, number: u32| {
-        rewrite(&database, &Query::new(&lines(before), 128), kind, node) == Err(Refusal { number, place: 0 })
+        rewrite(&database, &Query::new(&nodes(before), 128), kind, node) == Err(Refusal { number, place: 0 })
     };
     let step = "var=1 copy=1,2 drop=1 table=0 copy=0,2 drop=0 pair=join drop=2";
     let right_step = "copy=3,2 drop=3 table=1 copy=0,2 drop=0 pair=join drop=2";
@@ -148,7 +151,7 @@ fn exact_plans() -> Vec<(&'static str, bool)> {
         path,
     };
     let of = |text: &str| {
-        let query = Query::new(&lines(text), 128);
+        let query = Query::new(&nodes(text), 128);
         plan(&check(&query, doors(&[]).schema()).expect("a checked query").root)
     };
     let join = Operation::Pair(Pairing::Join);

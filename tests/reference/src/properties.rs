@@ -1,5 +1,7 @@
 //! Properties of random inputs. Each seed gives one input; a property that fails names its seed.
 
+mod desk_and_panel;
+
 use crate::algebra::Condition;
 use crate::answer::{answer, FILE_BYTES};
 use crate::check::{check, Checked};
@@ -13,11 +15,12 @@ use crate::selfcheck::{shown, Outcome};
 use crate::text::{print_answer, print_database, print_query, print_steps, read_database, read_query};
 use crate::value::{slots_of, Database, Node, Query, Refusal, COLUMNS};
 
-/// What random inputs have met: accepted rewrites by kind and refusals by number.
+/// What random inputs have met: accepted rewrites by kind and refusals by number, and what desk and panel have.
 #[derive(Default)]
 pub struct Coverage {
     pub kinds: [u32; 7],
     pub numbers: [u32; 20],
+    pub panel: desk_and_panel::Met,
 }
 
 impl Coverage {
@@ -25,11 +28,13 @@ impl Coverage {
         self.numbers[refusal.number as usize] += 1;
     }
 
-    /// Each kind was accepted and each number given.
-    pub fn outcome(&self) -> Outcome {
+    /// Each kind was accepted and each number given; the panel's share of it.
+    pub fn outcomes(&self) -> Vec<Outcome> {
         let seen = format!("accepted by kind {:?}, refused by number {:?}", &self.kinds[1..], &self.numbers[1..]);
         let full = self.kinds[1..].iter().chain(&self.numbers[1..]).all(|times| *times > 0);
-        ("every kind is accepted and every number given".to_string(), if full { Ok(seen) } else { Err(seen) })
+        let all =
+            ("every kind is accepted and every number given".to_string(), if full { Ok(seen) } else { Err(seen) });
+        vec![all, self.panel.outcome()]
     }
 }
 
@@ -37,7 +42,7 @@ impl Coverage {
 type Verdict = Result<bool, String>;
 type Property = fn(&mut Random, &mut Coverage) -> Verdict;
 
-const PROPERTIES: [(&str, Property); 13] = [
+const PROPERTIES: [(&str, Property); 19] = [
     ("a printed query is read back", queries_are_read_back),
     ("a printed database is read back", databases_are_read_back),
     ("a query's refusal names its first bad line", first_bad_line_of_a_query),
@@ -51,6 +56,12 @@ const PROPERTIES: [(&str, Property); 13] = [
     ("an accepted rewrite keeps meaning and columns", rewrites),
     ("a list of rewrites keeps the meaning", lists_of_rewrites),
     ("answer prints the meaning", answers),
+    ("the panel reads texts as the desk up to 32 nodes", desk_and_panel::texts),
+    ("the panel replies as the desk up to 32 nodes", desk_and_panel::replies),
+    ("steps made at desk and panel give one query", desk_and_panel::lists_of_rewrites),
+    ("desk and panel give one answer", desk_and_panel::runs),
+    ("the panel's row limit is exact", desk_and_panel::row_limits),
+    ("the panel's workspace is enough", desk_and_panel::workspaces),
 ];
 
 /// One test a property, each on the seeds from `seed` on.

@@ -1,7 +1,9 @@
 //! Random inputs from fixed seeds: databases, queries that are checked by construction, steps.
 
-use crate::algebra::{Columns, Condition, Pairing, Relation};
-use crate::value::{Database, Node, Query, COLUMNS, TABLES, VARIABLES};
+use crate::algebra::{Columns, Condition, Pairing, Relation, Row};
+use crate::text::nodes;
+use crate::value::{Database, Node, Query, COLUMNS, NODES, TABLES, VARIABLES};
+use std::ops::Range;
 
 /// A xorshift generator.
 pub struct Random(u64);
@@ -91,16 +93,93 @@ pub fn with_columns_of(random: &mut Random, database: &Database) -> Database {
 pub fn query(random: &mut Random, schema: &[Columns], capacity: usize) -> Query {
     let mut size = 2 + random.below(8);
     loop {
-        let mut maker = Maker { random: &mut *random, schema, taken: Vec::new() };
-        let mut piece = if maker.random.once_in(4) { maker.closed(size) } else { maker.redex(size) };
+        let mut maker = Maker::new(random, schema);
+        let mut piece = maker.first(size);
         while maker.random.once_in(3) {
-            piece = if maker.random.once_in(3) { maker.beside(piece) } else { maker.above(piece) };
+            piece = maker.around(piece);
         }
         if piece.lines.len() <= capacity {
             return Query::new(&piece.lines, capacity);
         }
         size = size.saturating_sub(1);
     }
+}
+
+/// A checked query of exactly so many nodes.
+pub fn query_of(random: &mut Random, schema: &[Columns], nodes: usize) -> Query {
+    loop {
+        let mut maker = Maker::new(random, schema);
+        let mut piece = maker.first(4);
+        while piece.lines.len() < nodes {
+            piece = maker.around(piece);
+        }
+        if piece.lines.len() == nodes {
+            return Query::new(&piece.lines, NODES);
+        }
+    }
+}
+
+/// A checked query of at most so many nodes, most of them variables and fixes: each fix is the seed of another.
+pub fn query_of_fixes(random: &mut Random, schema: &[Columns], nodes: usize) -> Query {
+    let mut maker = Maker::new(random, schema);
+    let mut piece = maker.leaf();
+    loop {
+        let variable = if maker.random.once_in(8) { None } else { maker.variable() };
+        let next = match variable {
+            Some(variable) => {
+                let step = Piece::leaf(Node::Var(variable), piece.columns.clone());
+                piece.clone().fix(step, variable)
+            }
+            None => maker.around(piece.clone()),
+        };
+        if next.lines.len() > nodes {
+            return Query::new(&piece.lines, NODES);
+        }
+        piece = next;
+    }
+}
+
+/// A database and a checked query whose largest register holds exactly so many rows, nine or more: those of a table, a
+/// union, a join or a fix. The lines above it add none.
+pub fn query_of_rows(random: &mut Random, rows: u32) -> (Database, Query) {
+    let (tables, lines, columns) = match random.below(4) {
+        0 => (vec![single(0..rows)], "table=0", Columns::from([0])),
+        1 => {
+            let split = random.below(rows as usize + 1) as u32;
+            (vec![single(0..split), single(split..rows)], "table=0 table=1 pair=union", Columns::from([0]))
+        }
+        2 => {
+            // Of the left rows, `many` fit `wide` right rows each, the others one each.
+            let wide = 1 + random.below(8) as u32;
+            let many = rows / wide;
+            let left = (0..many).map(|value| [value, 0]).chain((many * wide..rows).map(|value| [value, 1]));
+            let right = (0..wide).map(|value| [0, value]).chain([[1, 0]]);
+            let tables = vec![double([0, 1], left), double([1, 2], right)];
+            (tables, "table=0 table=1 pair=join", Columns::from([0, 1, 2]))
+        }
+        _ => {
+            // From 0 on along a chain of so many nodes.
+            let chain = double([0, 1], (1..rows).map(|value| [value - 1, value]));
+            let lines = "fact=1,0 var=0 copy=1,2 drop=1 table=0 copy=0,2 drop=0 pair=join drop=2 fix=0";
+            (vec![chain], lines, Columns::from([1]))
+        }
+    };
+    let database = Database::stored(&tables, 0);
+    let mut maker = Maker::new(random, database.schema());
+    let mut piece = Piece { lines: nodes(lines), columns };
+    while maker.random.once_in(2) {
+        piece = maker.above(piece);
+    }
+    let query = Query::new(&piece.lines, NODES);
+    (database, query)
+}
+
+fn single(values: Range<u32>) -> (Columns, Relation) {
+    (Columns::from([0]), values.map(|value| Row::from([(0, value)])).collect())
+}
+
+fn double(columns: [u8; 2], rows: impl Iterator<Item = [u32; 2]>) -> (Columns, Relation) {
+    (Columns::from(columns), rows.map(|row| columns.into_iter().zip(row).collect()).collect())
 }
 
 /// Lines and the columns of their last node.
@@ -154,7 +233,29 @@ struct Maker<'a> {
     taken: Vec<u8>,
 }
 
-impl Maker<'_> {
+impl<'a> Maker<'a> {
+    fn new(random: &'a mut Random, schema: &'a [Columns]) -> Maker<'a> {
+        Maker { random, schema, taken: Vec::new() }
+    }
+
+    /// Something that often is what a kind of rewrite looks at.
+    fn first(&mut self, size: usize) -> Piece {
+        if self.random.once_in(4) {
+            self.closed(size)
+        } else {
+            self.redex(size)
+        }
+    }
+
+    /// Lines above or beside a piece; none if nothing can stand above it.
+    fn around(&mut self, piece: Piece) -> Piece {
+        if self.random.once_in(3) {
+            self.beside(piece)
+        } else {
+            self.above(piece)
+        }
+    }
+
     fn absent(&mut self, columns: &Columns) -> Option<u8> {
         // Low columns more often than high ones.
         let last = if self.random.once_in(4) { COLUMNS as u8 } else { 5 };

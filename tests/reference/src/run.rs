@@ -14,7 +14,7 @@ pub struct Answer {
 }
 
 /// The entries that a run of a plan with so many registers needs: a count and the rows of each.
-pub fn workspace_entries(registers: usize, row_limit: u32) -> usize {
+pub const fn workspace_entries(registers: usize, row_limit: u32) -> usize {
     registers * (1 + COLUMNS * row_limit as usize)
 }
 

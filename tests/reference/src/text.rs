@@ -105,6 +105,12 @@ pub fn read_node(line: &[u8]) -> Option<Node> {
     }
 }
 
+/// Lines on the form, with blanks between.
+pub fn nodes(lines: &str) -> Vec<Node> {
+    let read = |line| read_node(str::as_bytes(line)).expect("a line on the form");
+    lines.split_whitespace().map(read).collect()
+}
+
 /// 1 at the first bad line, then 2 at line 2.
 pub fn read_query(text: &[u8], limit: usize) -> Result<Query, Refusal> {
     let mut lines = Lines::new(text);

@@ -34,7 +34,7 @@ fn main() -> ExitCode {
     let mut outcomes = [folders, read, rewritten, worked, properties(seed, count, &mut coverage)].concat();
     // Fewer inputs may miss a kind or a number.
     if count >= COUNT {
-        outcomes.push(coverage.outcome());
+        outcomes.extend(coverage.outcomes());
     }
     let (passed, failed) = report(&outcomes);
     println!("{passed} passed, {failed} failed");
