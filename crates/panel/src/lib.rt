@@ -98,8 +98,8 @@ pub fn run(
     )
 }
 
-// The run of what a list of steps leaves: kinds and nodes, in turn. The clause `meaning` is demand 3: whatever the list, a finished run's answer is
-// the FIRST query's meaning.
+// The run of what a list of steps leaves: kinds and nodes, in turn, each step made at the panel. The clause `meaning` is demand 3: whatever the list, a
+// finished run's answer is the FIRST query's meaning; the clause `enough` is that of `run`.
 pub fn run_rewritten(
     query: Query,
     database: Database,
