@@ -1,5 +1,6 @@
 -- `run_rewritten` meets its contract: it is the desk's list call at the panel's limits, and a workspace of PANEL_WORKSPACE entries is enough.
 use borrow.Author.Needs.{needs}
+use native.Mathlib.Omega.{arith}
 use denote.Ref.{now}
 use Rattle.relation.specs.Rows.{columns}
 use Rattle.machine.specs.Limits.{panelLimits}
@@ -13,7 +14,7 @@ returns c =
     let s = c .before .before .before .before .before .before .before .before .before .before .before .args in
     let r = c .before .before .before .before .run-rewritten in
     let left = leftBy columns (panelLimits .nodes) (s .query) (s .database) (now (s .store)) (now (s .steps)) in
-    (r .ensures .0, (r .ensures .1, λ h. panel-begins left (s .database) (now (s .store)) (s .budget) (now (s .workspace)) h))
+    (r .ensures .0, (r .ensures .1, λ h. panel-begins left (s .database) (now (s .store)) (s .budget) (now (s .workspace)) (omega arith)))
 
 pub run-rewritten-spec : {M : Type 1} → statement M
 run-rewritten-spec = tie.close (tie.spec (λ c κs. search needs) (λ c. search needs) (λ c. search needs) returns)
