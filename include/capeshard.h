@@ -47,7 +47,7 @@ enum {
     CAPESHARD_EXCEPT = 6, /* pair=except */
     CAPESHARD_EQ = 7, /* eq=a,b */
     CAPESHARD_NE = 8, /* ne=a,b */
-    CAPESHARD_MAX = 9, /* max=a,b */
+    CAPESHARD_MAX = 9, /* max=a,b; a column that holds 0 passes no max */
     CAPESHARD_SAME = 10, /* same=a,b */
     CAPESHARD_COPY = 11, /* copy=a,b */
     CAPESHARD_DROP = 12, /* drop=a */

@@ -138,6 +138,35 @@ fn wide_closure() -> Workload {
     }
 }
 
+/// `max=4,1850`: a work without a year has 0 there and passes no `max`.
+const EARLY: &str = "c4 <> 0 AND c4 <= 1850";
+const SQL_TOUR: &str = "WITH RECURSIVE r(c0, c1, c4) AS (SELECT c0, c1, c4 FROM t0 \
+                        UNION SELECT r.c0, t1.c1, r.c4 FROM r JOIN t1 ON t1.c0 = r.c1)";
+
+/// What is reached from early works; their year rides along in column 4.
+fn early_works() -> Workload {
+    Workload {
+        name: "period tour, max outside".to_string(),
+        lines: format!("table=0 {} fix=1 max=4,1850", STEP.replace("table=0", "table=1")),
+        step: None,
+        tables: Vec::new(),
+        sql: format!("{SQL_TOUR} SELECT c0, c1, c4 FROM r WHERE {EARLY}"),
+        limit: TABLE_ROWS,
+        indexes: &["t1(c0, c1)"],
+        recursive: true,
+    }
+}
+
+/// The same with the filter pushed in by kind 1.
+fn early_works_pushed() -> Workload {
+    Workload {
+        name: "period tour, max pushed in by kind 1".to_string(),
+        step: Some((1, 11)),
+        sql: format!("{} SELECT c0, c1, c4 FROM r", SQL_TOUR.replace("FROM t0", &format!("FROM t0 WHERE {EARLY}"))),
+        ..early_works()
+    }
+}
+
 fn wide_join() -> Workload {
     Workload {
         name: "join of wide rows".to_string(),
@@ -241,6 +270,12 @@ pub fn workloads() -> Vec<Workload> {
         _ => (tour + 1) * u32::from(column) % 17,
     });
     found.push(wide_closure().over("60 rows of 7 columns, chain of 90 edges", vec![tours, edges([0, 1], chain(90))]));
+    // Every third work is undated; half of the dated ones are early.
+    let years = |work: u32| if work % 3 == 0 { 0 } else { 1850 - 30 + work };
+    let works = table(&[0, 1, 4], 60, |work, column| if column == 4 { years(work) } else { work + 1 });
+    for workload in [early_works(), early_works_pushed()] {
+        found.push(workload.over("60 works, chain of 90 edges", vec![works.clone(), edges([0, 1], chain(90))]));
+    }
     // 16 groups of 16 rows on both sides.
     let grouped = |row: u32, column: u8| if column == 4 { row / 16 } else { row * (1 + u32::from(column)) };
     let sides = vec![table(&[0, 1, 2, 3, 4], 256, grouped), table(&[4, 5, 6, 7], 256, grouped)];

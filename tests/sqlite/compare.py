@@ -33,7 +33,8 @@ REFUSALS = range(1, 20)
 # Sheets that tests/reference makes are checked, and their steps accepted, by construction: only a limit may be met.
 LIMITS = (18, 19)
 OPERANDS = {"table": 0, "var": 0, "fact": 0, "pair": 2, "fix": 2}
-COMPARE = {"eq": "=", "ne": "<>", "max": "<="}
+# A filter's column, and its value or other column. A column that holds 0 passes no `max`.
+CONDITIONS = {"eq": "{0} = {1}", "ne": "{0} <> {1}", "max": "{0} <> 0 AND {0} <= {1}", "same": "{0} = {1}"}
 
 
 class Term(NamedTuple):
@@ -173,8 +174,8 @@ def single(key, value, term):
         return term._replace(values={**values, value[1]: values[value[0]]})
     if key == "drop":
         return term._replace(values={c: values[c] for c in values if c != value[0]})
-    condition = f"{values[value[0]]} = {values[value[1]]}" if key == "same" else f"{values[value[0]]} {COMPARE[key]} {value[1]}"
-    return term._replace(where=term.where + (condition,))
+    other = values[value[1]] if key == "same" else value[1]
+    return term._replace(where=term.where + (CONDITIONS[key].format(values[value[0]], other),))
 
 
 def load(database, text):

@@ -159,6 +159,7 @@ pub enum Line {
     Except,
     Eq(u32, u32),
     Ne(u32, u32),
+    /// A row whose column holds 0 passes no `max`, whatever the bound.
     Max(u32, u32),
     Same(u32, u32),
     Copy(u32, u32),

@@ -3,6 +3,7 @@ pub mod Domain
 pub mod Each
 pub mod Linear
 pub mod LeastFixpoint
+pub mod Unknown
 pub mod ColumnSets
 pub mod Typing
 pub mod Typed

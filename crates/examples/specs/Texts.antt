@@ -17,9 +17,21 @@ pub record Example : Type 0 where
 abbrev pub doors : String
 doors = "guide=1\ntables=1\ncols=0,1\nrows=2\nrow=1,2\nrow=2,3\n"
 
--- a sheet over the doors, its steps, and what is printed
+-- objects with the year in column 4, the first one undated
+abbrev pub objects : String
+objects = "guide=1\ntables=1\ncols=0,4\nrows=3\nrow=1,0\nrow=2,1850\nrow=3,1901\n"
+
+-- doors from object to object, with the year of the one they lead from; the doors without it
+abbrev pub tours : String
+tours = "guide=1\ntables=2\ncols=0,1,4\nrows=3\nrow=1,2,1790\nrow=2,3,0\nrow=3,4,1901\ncols=0,1\nrows=3\nrow=1,2\nrow=2,3\nrow=3,4\n"
+
+-- a sheet over a book, its steps, and what is printed
+abbrev pub over : String → String → String → String → Example
+over b s k p = record { sheet = bytes s; book = bytes b; steps = bytes k; printed = bytes p }
+
+-- over the doors
 abbrev pub steps : String → String → String → Example
-steps s k p = record { sheet = bytes s; book = bytes doors; steps = bytes k; printed = bytes p }
+steps s k p = over doors s k p
 
 abbrev pub sheet : String → String → Example
 sheet s p = steps s "" p
@@ -34,6 +46,13 @@ reach = "table=0\nvar=1\ncopy=1,2\ndrop=1\ntable=0\ncopy=0,2\ndrop=0\npair=join\
 -- Reach with lines behind it
 abbrev pub reachAnd : String → String → String
 reachAnd count more = Str._++_ "guide=1\nnodes=" (Str._++_ count (Str._++_ "\n" (Str._++_ reach more)))
+
+-- Reach over the tours from dated objects up to 1850, and what it prints
+abbrev pub earlyTour : String
+earlyTour = "guide=1\nnodes=11\ntable=0\nvar=1\ncopy=1,2\ndrop=1\ntable=1\ncopy=0,2\ndrop=0\npair=join\ndrop=2\nfix=1\nmax=4,1850\n"
+
+abbrev pub earlyObjects : String
+earlyObjects = "guide=1\ncols=0,1,4\nrows=3\nrow=1,2,1790\nrow=1,3,1790\nrow=1,4,1790\nran=21\n"
 
 -- n times a node line, under the count given
 abbrev pub repeated : String → ℕ → String → Example
@@ -85,9 +104,18 @@ answers =
     -- without columns: the one row without values, or none
     ∷ (sheet "guide=1\nnodes=2\nfact=0,5\ndrop=0\n" "guide=1\ncols=\nrows=1\nrow=\nran=2\n"
     ∷ (sheet "guide=1\nnodes=3\nfact=0,5\neq=0,6\ndrop=0\n" "guide=1\ncols=\nrows=0\nran=3\n"
-    -- `same=C,C` is allowed; `max` compares 0 like any other number
+    -- `same=C,C` is allowed
     ∷ (sheet "guide=1\nnodes=2\ntable=0\nsame=1,1\n" "guide=1\ncols=0,1\nrows=2\nrow=1,2\nrow=2,3\nran=2\n"
-    ∷ (sheet "guide=1\nnodes=2\nfact=3,0\nmax=3,0\n" "guide=1\ncols=3\nrows=1\nrow=0\nran=2\n"
+    -- 0 passes no `max`, whatever the bound; the other filters compare it
+    ∷ (over objects "guide=1\nnodes=2\ntable=0\nmax=4,1850\n" "" "guide=1\ncols=0,4\nrows=1\nrow=2,1850\nran=2\n"
+    ∷ (over objects "guide=1\nnodes=2\ntable=0\nmax=4,4294967295\n" "" "guide=1\ncols=0,4\nrows=2\nrow=2,1850\nrow=3,1901\nran=2\n"
+    ∷ (over objects "guide=1\nnodes=2\ntable=0\nmax=4,0\n" "" "guide=1\ncols=0,4\nrows=0\nran=2\n"
+    ∷ (over objects "guide=1\nnodes=2\ntable=0\neq=4,0\n" "" "guide=1\ncols=0,4\nrows=1\nrow=1,0\nran=2\n"
+    ∷ (over objects "guide=1\nnodes=2\ntable=0\nne=4,0\n" "" "guide=1\ncols=0,4\nrows=2\nrow=2,1850\nrow=3,1901\nran=2\n"
+    ∷ (over objects "guide=1\nnodes=3\ntable=0\ncopy=4,5\nsame=4,5\n" "" "guide=1\ncols=0,4,5\nrows=3\nrow=1,0,0\nrow=2,1850,1850\nrow=3,1901,1901\nran=3\n"
+    -- before and after rearranging alike
+    ∷ (over tours earlyTour "" earlyObjects
+    ∷ (over tours earlyTour "step=1,11\n" earlyObjects
     -- except without shared columns keeps its left side only where the right one is empty
     ∷ (sheet "guide=1\nnodes=3\ntable=0\nfact=3,1\npair=except\n" "guide=1\ncols=0,1\nrows=0\nran=3\n"
     ∷ (sheet "guide=1\nnodes=4\ntable=0\nfact=3,1\nne=3,1\npair=except\n" "guide=1\ncols=0,1\nrows=2\nrow=1,2\nrow=2,3\nran=4\n"
@@ -99,7 +127,7 @@ answers =
     ∷ (book "guide=1\ntables=0\n" "guide=1\ncols=0\nrows=1\nrow=1\nran=1\n"
     ∷ (book "guide=1\ntables=1\ncols=7\nrows=0\n" "guide=1\ncols=0\nrows=1\nrow=1\nran=1\n"
     ∷ (book "guide=1\ntables=1\ncols=0,7\nrows=2\nrow=0,4294967295\nrow=1,0\n" "guide=1\ncols=0\nrows=1\nrow=1\nran=1\n"
-    ∷ [])))))))))))
+    ∷ []))))))))))))))))))
 
 -- the edges of the text forms
 abbrev pub edges : List Example

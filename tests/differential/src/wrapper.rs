@@ -145,7 +145,35 @@ pub fn cases(random: &mut Random, tally: &mut Tally) {
     if random.once_in(6) {
         database = exchanged(random, &database);
     }
-    values(random, tally, &database, query);
+    values(random, tally, &database, query.clone());
+    for query in filtered(random, tally, &database, &query) {
+        values(random, tally, &database, query);
+    }
+}
+
+/// Row limit of the run that tells what a query's columns hold.
+const MOST: usize = 40;
+
+/// A query that answers, under each filter with a value. Half of the values are the column's own, so that most filters keep
+/// some rows and stop others.
+fn filtered(random: &mut Random, tally: &mut Tally, database: &Database, query: &Query) -> Vec<Query> {
+    let Ok(answer) = desk_run(database, query, MOST, u32::MAX) else {
+        return Vec::new();
+    };
+    let Some(at) = random.pick(0..answer.columns.len()) else {
+        return Vec::new();
+    };
+    let column = answer.columns[at] as u8;
+    let values: Vec<u32> = answer.rows.iter().map(|row| row[at]).collect();
+    let own = if random.once_in(2) { random.pick(values.clone()) } else { None };
+    let value = own.unwrap_or([0, 1, 4, u32::MAX][random.below(4)]);
+    tally.unknown += u64::from(values.contains(&0));
+    [Condition::Eq(column, value), Condition::Ne(column, value), Condition::Max(column, value)]
+        .map(|condition| [query.lines(), &[Node::Filter(condition)]].concat())
+        .into_iter()
+        .filter(|lines| lines.len() <= NODES)
+        .map(|lines| Query::new(&lines, NODES))
+        .collect()
 }
 
 fn texts(random: &mut Random, tally: &mut Tally, mut sheet: Vec<u8>, mut book: Vec<u8>) {

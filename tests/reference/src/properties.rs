@@ -2,7 +2,7 @@
 
 mod desk_and_panel;
 
-use crate::algebra::Condition;
+use crate::algebra::{Condition, Relation};
 use crate::answer::{answer, FILE_BYTES};
 use crate::check::{check, Checked};
 use crate::damage;
@@ -15,11 +15,13 @@ use crate::selfcheck::{shown, Outcome};
 use crate::text::{print_answer, print_database, print_query, print_steps, read_database, read_query};
 use crate::value::{slots_of, Database, Node, Query, Refusal, COLUMNS};
 
-/// What random inputs have met: accepted rewrites by kind and refusals by number, and what desk and panel have.
+/// What random inputs have met: accepted rewrites by kind, refusals by number, filters over rows with a 0 in their column and
+/// those of them that were pushed into a recursion, and what desk and panel have.
 #[derive(Default)]
 pub struct Coverage {
     pub kinds: [u32; 7],
     pub numbers: [u32; 20],
+    pub unknown: [u32; 2],
     pub panel: desk_and_panel::Met,
 }
 
@@ -28,13 +30,16 @@ impl Coverage {
         self.numbers[refusal.number as usize] += 1;
     }
 
-    /// Each kind was accepted and each number given; the panel's share of it.
+    /// Each kind was accepted and each number given; filters met 0, also in a recursion; the panel's share of it.
     pub fn outcomes(&self) -> Vec<Outcome> {
         let seen = format!("accepted by kind {:?}, refused by number {:?}", &self.kinds[1..], &self.numbers[1..]);
         let full = self.kinds[1..].iter().chain(&self.numbers[1..]).all(|times| *times > 0);
         let all =
             ("every kind is accepted and every number given".to_string(), if full { Ok(seen) } else { Err(seen) });
-        vec![all, self.panel.outcome()]
+        let seen = format!("{} filters over a 0, {} of them pushed in", self.unknown[0], self.unknown[1]);
+        let met = self.unknown.iter().all(|times| *times > 0);
+        let unknown = ("filters meet unknown values".to_string(), if met { Ok(seen) } else { Err(seen) });
+        vec![all, unknown, self.panel.outcome()]
     }
 }
 
@@ -42,7 +47,7 @@ impl Coverage {
 type Verdict = Result<bool, String>;
 type Property = fn(&mut Random, &mut Coverage) -> Verdict;
 
-const PROPERTIES: [(&str, Property); 19] = [
+const PROPERTIES: [(&str, Property); 20] = [
     ("a printed query is read back", queries_are_read_back),
     ("a printed database is read back", databases_are_read_back),
     ("a query's refusal names its first bad line", first_bad_line_of_a_query),
@@ -53,6 +58,7 @@ const PROPERTIES: [(&str, Property); 19] = [
     ("a finished run gives the meaning", runs_give_the_meaning),
     ("budget and row limit are exact", limits_are_exact),
     ("lent slices hold what they should", lent_slices),
+    ("a filter keeps the rows that compare so, 0 passing no max", filters),
     ("an accepted rewrite keeps meaning and columns", rewrites),
     ("a list of rewrites keeps the meaning", lists_of_rewrites),
     ("answer prints the meaning", answers),
@@ -402,6 +408,41 @@ fn lent_slices(random: &mut Random, coverage: &mut Coverage) -> Verdict {
     let kept = if began { workspace.iter().all(|entry| *entry == 0) } else { workspace == before };
     if !kept || workspace.len() != before.len() {
         return Err(format!("{result:?} left another workspace: {query:?} {database:?}"));
+    }
+    Ok(true)
+}
+
+/// Each filter with a value above a query, and pushed in by kind 1 where that is accepted.
+fn filters(random: &mut Random, coverage: &mut Coverage) -> Verdict {
+    let (database, query, checked) = input(random, 40)?;
+    let tables = database.relations();
+    let column = random.pick(checked.columns(&checked.root).iter().copied());
+    let (Some(rows), Some(column)) = (meaning(&checked.root, &tables, MOST), column) else {
+        return Ok(false);
+    };
+    let values = rows.iter().map(|row| row[&column]);
+    let unknown = values.clone().any(|value| value == 0);
+    let bound = random.pick(values.chain([0, 1, u32::MAX])).expect("a value");
+    let filters: [(Condition, fn(u32, u32) -> bool); 3] = [
+        (Condition::Eq(column, bound), |value, bound| value == bound),
+        (Condition::Ne(column, bound), |value, bound| value != bound),
+        (Condition::Max(column, bound), |value, bound| value != 0 && value <= bound),
+    ];
+    for (condition, passes) in filters {
+        let lines = [&query.nodes[..query.count as usize], &[Node::Filter(condition)]].concat();
+        let filtered = Query::new(&lines, lines.len());
+        let due: Relation = rows.iter().filter(|row| passes(row[&column], bound)).cloned().collect();
+        let mut sheets = vec![filtered.clone()];
+        sheets.extend(rewrite(&database, &filtered, 1, filtered.count));
+        coverage.unknown[0] += u32::from(unknown);
+        coverage.unknown[1] += u32::from(unknown && sheets.len() == 2);
+        for sheet in sheets {
+            let Ok(checked) = check(&sheet, database.schema()) else {
+                return Err(format!("not checked{}", told(&sheet, &database)));
+            };
+            let kept = meaning(&checked.root, &tables, MOST);
+            ensure(kept.is_none_or(|kept| kept == due), "other rows", &sheet, &database)?;
+        }
     }
     Ok(true)
 }
