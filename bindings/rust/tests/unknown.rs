@@ -25,7 +25,7 @@ fn an_undated_object_passes_no_max() {
 }
 
 #[test]
-fn also_after_a_step_of_kind_1() {
+fn an_undated_object_passes_no_max_in_the_seed() {
     let over = [Line::Table(0), Line::Var(1), Line::Fix(1), Line::Max(4, 1850)];
     let mut held = Query::of(&over).unwrap();
     let before = held.run(&objects(), 3, 10).unwrap();

@@ -101,7 +101,7 @@ impl Tally {
         if met && self.numbers[1][16] == 0 && most && self.unknown > 0 {
             self.passed += 1;
         } else {
-            println!("FAILED every call and kind is accepted, every number given and every limit met");
+            println!("FAILED every call and kind is accepted, every number given, every limit met and 0 under filters");
             self.failed += 1;
         }
     }

@@ -1,6 +1,6 @@
-//! Document 01 a second time, with the requests of document 02 that have landed, written from the papers alone and without the
-//! engine's code: test evidence beside the proofs. Relations are sets of mappings; nothing here works on rows of slots until an answer is
-//! written.
+//! Document 01 a second time, with the requests of document 02 that have landed, written from the papers alone and without
+//! the engine's code: test evidence beside the proofs. Relations are sets of mappings; nothing here works on rows of slots
+//! until an answer is written.
 //!
 //! In the paper's words a query is a sheet, a database a book, a budget the allowance, a register a holder and a delta
 //! the newest rows of a fix.

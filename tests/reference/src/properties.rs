@@ -429,7 +429,7 @@ fn filters(random: &mut Random, coverage: &mut Coverage) -> Verdict {
         (Condition::Max(column, bound), |value, bound| value != 0 && value <= bound),
     ];
     for (condition, passes) in filters {
-        let lines = [&query.nodes[..query.count as usize], &[Node::Filter(condition)]].concat();
+        let lines = [query.lines(), &[Node::Filter(condition)]].concat();
         let filtered = Query::new(&lines, lines.len());
         let due: Relation = rows.iter().filter(|row| passes(row[&column], bound)).cloned().collect();
         let mut sheets = vec![filtered.clone()];
