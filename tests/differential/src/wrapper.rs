@@ -154,13 +154,13 @@ pub fn cases(random: &mut Random, tally: &mut Tally) {
 /// Row limit of the run that tells what a query's columns hold.
 const MOST: usize = 40;
 
-/// A query that answers, under each filter with a value. Half of the values are the column's own, so that most filters keep
-/// some rows and stop others.
+/// A query that answers and has room for a line, under each filter with a value. Half of the values are the column's own, so
+/// that most filters keep some rows and stop others.
 fn filtered(random: &mut Random, tally: &mut Tally, database: &Database, query: &Query) -> Vec<Query> {
     let Ok(answer) = desk_run(database, query, MOST, u32::MAX) else {
         return Vec::new();
     };
-    let Some(at) = random.pick(0..answer.columns.len()) else {
+    let Some(at) = random.pick(0..answer.columns.len()).filter(|_| query.lines().len() < NODES) else {
         return Vec::new();
     };
     let column = answer.columns[at] as u8;
@@ -169,11 +169,8 @@ fn filtered(random: &mut Random, tally: &mut Tally, database: &Database, query: 
     let value = own.unwrap_or([0, 1, 4, u32::MAX][random.below(4)]);
     tally.unknown += u64::from(values.contains(&0));
     [Condition::Eq(column, value), Condition::Ne(column, value), Condition::Max(column, value)]
-        .map(|condition| [query.lines(), &[Node::Filter(condition)]].concat())
-        .into_iter()
-        .filter(|lines| lines.len() <= NODES)
-        .map(|lines| Query::new(&lines, NODES))
-        .collect()
+        .map(|condition| Query::new(&[query.lines(), &[Node::Filter(condition)]].concat(), NODES))
+        .into()
 }
 
 fn texts(random: &mut Random, tally: &mut Tally, mut sheet: Vec<u8>, mut book: Vec<u8>) {

@@ -441,7 +441,7 @@ fn filters(random: &mut Random, coverage: &mut Coverage) -> Verdict {
                 return Err(format!("not checked{}", told(&sheet, &database)));
             };
             let kept = meaning(&checked.root, &tables, MOST);
-            ensure(kept.is_none_or(|kept| kept == due), "other rows", &sheet, &database)?;
+            ensure(kept.as_ref() == Some(&due), "other rows", &sheet, &database)?;
         }
     }
     Ok(true)
