@@ -73,7 +73,7 @@ enum {
 /* Reads a sheet's text (1, 2, 17). limit: the highest node count taken, at most CAPESHARD_NODES. */
 uint64_t capeshard_read_query(const uint8_t *text, size_t text_len, size_t limit, uint32_t *query, size_t query_len);
 
-/* Reads a book's text (11, 17); its rows go into the store from its start on. */
+/* Reads a book's text (11, 17); its rows go into the store from its start on. A text of 0 bytes is a book without tables. */
 uint64_t capeshard_read_database(const uint8_t *text, size_t text_len, uint32_t *database, size_t database_len, uint32_t *store, size_t store_len);
 
 /* Checks a query over a database (11, then 2, 1, 3 to 10). */

@@ -163,7 +163,7 @@ def contract(lines):
 
 BLOCK = r"```\n((?:(?!```).*\n)*)```\n"
 EXAMPLE = re.compile(
-    rf"Case `([\w-]+)`(?:, with the step `([^`\n]*)`)?(?:, Reach |:\n\n{BLOCK}\n)(?:over the book:?\n\n{BLOCK}\n)?prints\n\n{BLOCK}"
+    rf"Case `([\w-]+)`(?:, with the step `([^`\n]*)`)?(?:, Reach |:\n\n{BLOCK}\n)(?:over the book:?\n\n{BLOCK}\n|over an (empty) book )?prints\n\n{BLOCK}"
 )
 PROVED = re.compile(rf"Proved case of `([\w/.]+)`:\n\n{BLOCK}")
 
@@ -184,9 +184,9 @@ def shown_wrongly(text):
     """
     parts = [(name, "expected.txt", printed + "\n") for name, printed in re.findall(r"`([\w-]+)` prints `([^`\n]*)`", text)]
     found = EXAMPLE.findall(text)
-    for name, step, sheet, book, printed in found:
+    for name, step, sheet, book, empty, printed in found:
         parts.append((name, "sheet.txt", sheet or case_text("reach", "sheet.txt")))
-        parts.append((name, "book.txt", book or case_text("reach", "book.txt")))
+        parts.append((name, "book.txt", "" if empty else book or case_text("reach", "book.txt")))
         parts.append((name, "steps.txt", step and step + "\n"))
         parts.append((name, "expected.txt", printed))
     bad = [f"{name} is not what tests/cases/{name}/{file} says" for name, file, part in parts if not shows(part, case_text(name, file))]

@@ -179,7 +179,9 @@ def single(key, value, term):
 
 
 def load(database, text):
-    """Creates a book's tables; their columns."""
+    """Creates a book's tables; their columns. A book of zero bytes has none."""
+    if not text:
+        return []
     lines = iter(text.splitlines()[1:])
     number = lambda: int(next(lines).split("=")[1])
     listed = lambda: [int(part) for part in next(lines).split("=")[1].split(",")]
@@ -256,6 +258,7 @@ class Tally:
         self.sheets += 1
         self.traits.update(read.traits())
         self.traits["rows"] += "\nrow=" in sought
+        self.traits["book of zero bytes"] += not book
         if "with steps" in printed:
             self.traits.update({f"kind {kind}" for kind in re.findall(r"step=(\d+)", steps.decode())})
         for kind, text in printed.items():

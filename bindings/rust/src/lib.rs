@@ -336,7 +336,7 @@ pub struct Database {
 }
 
 impl Database {
-    /// Reads a book's text (11).
+    /// Reads a book's text (11). A text of 0 bytes is a book without tables.
     pub fn read(text: &[u8]) -> Result<Database, Refusal> {
         // A row takes a line of its own, so there is room for every row.
         let lines = text.iter().filter(|byte| **byte == b'\n').count();

@@ -151,7 +151,7 @@ fn texts_are_read() {
     assert_eq!(Query::read(b"guide=1\nnodes=07\n"), refused(1, 2));
     assert_eq!(Query::read(b"guide=1\nnodes=0\n"), refused(2, 2));
     assert_eq!(Query::read(b""), refused(1, 1));
-    assert_eq!(Database::read(b""), refused(11, 1));
+    assert_eq!(Database::read(b"\n"), refused(11, 1));
     assert_eq!(Database::read(b"guide=1\ntables=1\ncols=0,1\nrows=2\nrow=2,3\nrow=1,2\n"), refused(11, 6));
 }
 

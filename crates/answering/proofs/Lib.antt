@@ -2,3 +2,4 @@ pub mod StepLines
 pub mod Printed
 pub mod FewRows
 pub mod Roomy
+pub mod EmptyBook

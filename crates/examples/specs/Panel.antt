@@ -10,7 +10,7 @@ use Rattle.relation.specs.Rows.{columns}
 use Rattle.database.specs.Refusals.{Reply, refused, accepted, number, placeOf, _>>=_}
 use Rattle.query.specs.Check.{checkOver}
 use Rattle.text.specs.Numbers.{bytes, digits, newline}
-use Rattle.text.specs.Texts.{readNodes, readTables, queryValue, databaseValue, tableEntries}
+use Rattle.text.specs.Texts.{readNodes, readDatabase, queryValue, databaseValue, tableEntries}
 use Rattle.machine.specs.Limits.{Limits}
 use Rattle.machine.specs.Run.{runQuery}
 use Rattle.answering.specs.Answer.{replyText}
@@ -19,7 +19,7 @@ use Rattle.examples.specs.Values.{counted, empty}
 -- what is printed for a sheet and a book where these limits are kept; the lent slices have room for two registers and their rows
 abbrev pub printsAt : Limits → List ℕ → List ℕ → List ℕ
 printsAt l sheet book = replyText (do
-  ts ← readTables columns book
+  ts ← readDatabase columns book
   ns ← readNodes columns (l .nodes) sheet
   runQuery columns (l .nodes) (queryValue ns) (databaseValue columns ts) (tableEntries ts) (l .rows) 1000 (replicate (2 * (1 + columns * l .rows)) 7) (replicate columns 9))
 
@@ -51,6 +51,10 @@ rows count n desk panel =
       panel = bytes panel;
     }
 
+-- a sheet over a book of zero bytes, which prints the same at both
+abbrev pub noBook : String → String → Places
+noBook sheet printed = record { sheet = bytes sheet; book = []; desk = bytes printed; panel = bytes printed }
+
 abbrev pub places : List Places
 places =
     -- "On the panel, 33 nodes give 2": line 2 of a text, after 1; 32 nodes are taken, and get 3 since these are all roots
@@ -60,7 +64,11 @@ places =
     -- "and a holder of 65 rows gives 18", also under a filter
     ∷ (rows "64" 64 "guide=1\ncols=0\nrows=1\nrow=7\nran=2\n" "guide=1\ncols=0\nrows=1\nrow=7\nran=2\n"
     ∷ (rows "65" 65 "guide=1\ncols=0\nrows=1\nrow=7\nran=2\n" "refused=18,0\n"
-    ∷ []))))
+    -- "A book of zero bytes shall mean the same as `guide=1` and `tables=0`": on both
+    ∷ (noBook "guide=1\nnodes=2\nfact=0,7\ncopy=0,1\n" "guide=1\ncols=0,1\nrows=1\nrow=7,7\nran=2\n"
+    ∷ (noBook "guide=1\nnodes=2\ntable=0\neq=0,7\n" "refused=10,1\n"
+    ∷ (noBook "" "refused=1,1\n"
+    ∷ [])))))))
 
 -- a query of n nodes handed in as a value: number and place of the refusal at the desk and at the panel
 abbrev pub refusal : Reply Term → List ℕ

@@ -54,6 +54,15 @@ earlyTour = "guide=1\nnodes=11\ntable=0\nvar=1\ncopy=1,2\ndrop=1\ntable=1\ncopy=
 abbrev pub earlyObjects : String
 earlyObjects = "guide=1\ncols=0,1,4\nrows=3\nrow=1,2,1790\nrow=1,3,1790\nrow=1,4,1790\nran=21\n"
 
+-- Reach from room 1 over the same doors as facts
+abbrev pub factDoors : String
+factDoors = "fact=0,1\nfact=1,2\npair=join\nfact=0,2\nfact=1,3\npair=join\npair=union\n"
+
+abbrev pub factReach : String
+factReach =
+    Str._++_ "guide=1\nnodes=23\n" (Str._++_ factDoors (Str._++_ "var=1\ncopy=1,2\ndrop=1\n"
+    (Str._++_ factDoors "copy=0,2\ndrop=0\npair=join\ndrop=2\nfix=1\neq=0,1\n")))
+
 -- n times a node line, under the count given
 abbrev pub repeated : String → ℕ → String → Example
 repeated count n p =
@@ -123,11 +132,14 @@ answers =
     ∷ (sheet "guide=1\nnodes=3\nfact=2,7\ntable=0\npair=join\n" "guide=1\ncols=0,1,2\nrows=2\nrow=1,2,7\nrow=2,3,7\nran=3\n"
     -- steps one after the other, and none
     ∷ (steps (reachAnd "12" "eq=0,1\nne=0,2\n") "step=1,11\nstep=1,12\n" "guide=1\ncols=0,1\nrows=2\nrow=1,2\nrow=1,3\nran=17\n"
-    -- a book without tables, and a table without rows
+    -- a book without tables, a book of zero bytes under facts and under a recursion with a step, and a table without rows
     ∷ (book "guide=1\ntables=0\n" "guide=1\ncols=0\nrows=1\nrow=1\nran=1\n"
+    ∷ (book "" "guide=1\ncols=0\nrows=1\nrow=1\nran=1\n"
+    ∷ (over "" factReach "" "guide=1\ncols=0,1\nrows=2\nrow=1,2\nrow=1,3\nran=28\n"
+    ∷ (over "" factReach "step=1,23\n" "guide=1\ncols=0,1\nrows=2\nrow=1,2\nrow=1,3\nran=28\n"
     ∷ (book "guide=1\ntables=1\ncols=7\nrows=0\n" "guide=1\ncols=0\nrows=1\nrow=1\nran=1\n"
     ∷ (book "guide=1\ntables=1\ncols=0,7\nrows=2\nrow=0,4294967295\nrow=1,0\n" "guide=1\ncols=0\nrows=1\nrow=1\nran=1\n"
-    ∷ []))))))))))))))))))
+    ∷ [])))))))))))))))))))))
 
 -- the edges of the text forms
 abbrev pub edges : List Example
@@ -169,8 +181,12 @@ edges =
     ∷ (sheet "guide=1\nnodes=5\ntable=0\nvar=1\ntable=0\npair=union\nfix=1\n" "refused=8,4\n"
     ∷ (sheet "guide=1\nnodes=4\ntable=0\nvar=1\ndrop=1\nfix=1\n" "refused=9,4\n"
     ∷ (sheet "guide=1\nnodes=2\ntable=0\ncopy=0,0\n" "refused=9,2\n"
-    -- books: an empty text, too many tables, the columns' line, too many rows, a row's values, equal rows; before the sheet
-    ∷ (book "" "refused=11,1\n"
+    -- a book of zero bytes has no table; a sheet of zero bytes is refused over it too; one byte is no book
+    ∷ (over "" "guide=1\nnodes=3\nfact=0,1\ntable=0\npair=join\n" "" "refused=10,2\n"
+    ∷ (over "" "" "" "refused=1,1\n"
+    ∷ (book "\n" "refused=11,1\n"
+    ∷ (book "g" "refused=11,1\n"
+    -- books: too many tables, the columns' line, too many rows, a row's values, equal rows; before the sheet
     ∷ (book "guide=1\ntables=17\n" "refused=11,2\n"
     ∷ (book "guide=1\ntables=1\ncols=\nrows=0\n" "refused=11,3\n"
     ∷ (book "guide=1\ntables=1\ncols=1,0\nrows=0\n" "refused=11,3\n"
@@ -181,7 +197,7 @@ edges =
     ∷ (book "guide=1\ntables=1\ncols=0,1\nrows=1\nrow=1\n" "refused=11,5\n"
     ∷ (book "guide=1\ntables=1\ncols=0\nrows=2\nrow=1\nrow=1\n" "refused=11,6\n"
     ∷ (book "guide=1\ntables=1\ncols=0\nrows=2\nrow=1\n" "refused=11,6\n"
-    ∷ (record { sheet = []; book = []; steps = []; printed = bytes "refused=11,1\n" }
+    ∷ (over "\n" "" "" "refused=11,1\n"
     -- steps: off the form, without byte 10, a node and a kind that are none; the first refusal ends
     ∷ (steps (reachAnd "10" "") "step=1\n" "refused=12,0\n"
     ∷ (steps (reachAnd "11" "eq=0,1\n") "step=1,11" "refused=12,0\n"
@@ -191,4 +207,4 @@ edges =
     ∷ (steps (reachAnd "12" "eq=0,1\neq=1,3\n") "step=1,11\nstep=1,12\nstep\n" "refused=13,0\n"
     -- a file over its length, before all else
     ∷ (record { sheet = replicate 8193 48; book = []; steps = []; printed = bytes "refused=17,0\n" }
-    ∷ []))))))))))))))))))))))))))))))))))))))))))))))))))
+    ∷ [])))))))))))))))))))))))))))))))))))))))))))))))))))))

@@ -3,3 +3,4 @@ pub mod Walks
 pub mod RowWalks
 pub mod TableWalks
 pub mod TextWalks
+pub mod EmptyBook

@@ -2,11 +2,11 @@
 use mathlib.Core.Path.{_≡_, refl, ap, sym, _∙_}
 use mathlib.Core.Bool.{Bool, true, false}
 use mathlib.Core.Option.{Option, some, none}
-use mathlib.Core.List.{List, flatMap}
+use mathlib.Core.List.{List, [], flatMap}
 use Prim.Native.Nat.{ℕ, _≤_, _<_}
 use native.Mathlib.Omega.{arith}
 use lib.Dec.{leb}
-use lib.ListN.{length}
+use lib.ListN.{length, drop-of-length-le}
 use borrow.Author.Tests.{le-leb, lt-leb}
 use Rattle.relation.specs.Rows.{columns}
 use Rattle.database.specs.declared.Refusal.{Refusal}
@@ -20,10 +20,11 @@ use Rattle.text.specs.declared.line_reader.Opened.{Opened}
 use Rattle.text.specs.declared.line_reader.Opened.the-variants as opened
 use Rattle.text.specs.Numbers.{bytes}
 use Rattle.text.specs.Lines.{Rest, many, ended}
-use Rattle.text.specs.Texts.{Table, readTable, readTables, databaseValue, tableEntries}
-use Rattle.text.specs.Replies.{loadTables, storeAfter}
+use Rattle.text.specs.Texts.{Table, readTable, readTables, readDatabase, databaseValue, tableEntries}
+use Rattle.text.specs.Replies.{readOr, loadTables, storeAfter}
 use Rattle.text.specs.Cursors.{restAt, dueLine, wordForm, countForm, start, counted, headed, openedAt}
 use Rattle.text.proofs.ReaderLawsDue.{behindOpened, opening-reply}
+use Rattle.text.proofs.EmptyText.{empty-read, others-read, accepted-read}
 use Rattle.loading.specs.declared.table_reader.ReadTables.{ReadTables}
 use Rattle.loading.specs.Loading.{stores, readEntries, MayStore, Passed, tablesStored, GoodTables, textReply, tablesBehind, OnForm, textOr}
 use Rattle.loading.proofs.Stores.{may-first, stores-then}
@@ -90,25 +91,38 @@ module _ (text store : List ℕ) where
   abbrev fitting : List Table → Reply (List Table)
   fitting ts = require (leb (length (tableEntries ts)) (length store)) ShortSlice >>= λ _. accepted ts
 
-  by-form : (r : Reply (List Table)) → readTables columns text ≡ r → loadTables columns text store ≡ (r >>= fitting)
+  by-form : (r : Reply (List Table)) → readDatabase columns text ≡ r → loadTables columns text store ≡ (r >>= fitting)
   unfolding loadTables
   by-form r e = ap (λ r. r >>= fitting) e
 
-  pub load-bad : (q : Refusal) → readTables columns text ≡ refused q → loadTables columns text store ≡ refused q
-  load-bad q e = by-form (refused q) e
+  by-size : (ts : List Table) → readDatabase columns text ≡ accepted ts → (t : Bool) → leb (length (tableEntries ts)) (length store) ≡ t
+      → loadTables columns text store ≡ (require t ShortSlice >>= λ _. accepted ts)
+  by-size ts e t h = by-form (accepted ts) e ∙ ap (λ t. require t ShortSlice >>= λ _. accepted ts) h
+
+  pub load-empty : length text ≡ 0 → loadTables columns text store ≡ accepted []
+  unfolding flatMap
+  load-empty e =
+      let read = ap (readDatabase columns) (drop-of-length-le text {i = 0} (omega arith)) ∙ empty-read columns in
+      by-size [] read true (le-leb 0 (length store) (omega arith))
+
+  pub load-bad : (length text ≡ 0 → ⊥) → (q : Refusal) → readTables columns text ≡ refused q → loadTables columns text store ≡ refused q
+  load-bad some-byte q e = by-form (refused q) (others-read columns text (λ empty. some-byte (ap length empty)) ∙ e)
 
   module _ (size : ℕ) (f : OnForm text size) where
-    by-size : (t : Bool) → leb (length (tableEntries (f .value))) (length store) ≡ t
-        → loadTables columns text store ≡ (require t ShortSlice >>= λ _. accepted (f .value))
-    by-size t e = by-form (accepted (f .value)) (f .read) ∙ ap (λ t. require t ShortSlice >>= λ _. accepted (f .value)) e
+    read-form : readDatabase columns text ≡ accepted (f .value)
+    read-form = accepted-read columns text (f .value) (f .read)
 
     pub load-short : length store < size → loadTables columns text store ≡ refused ShortSlice
-    load-short h = let sized = f .sized in by-size false (lt-leb (length (tableEntries (f .value))) (length store) (omega arith))
+    load-short h = let sized = f .sized in by-size (f .value) read-form false (lt-leb (length (tableEntries (f .value))) (length store) (omega arith))
 
     pub load-fits : size ≤ length store → loadTables columns text store ≡ accepted (f .value)
-    load-fits h = let sized = f .sized in by-size true (le-leb (length (tableEntries (f .value))) (length store) (omega arith))
+    load-fits h = let sized = f .sized in by-size (f .value) read-form true (le-leb (length (tableEntries (f .value))) (length store) (omega arith))
+
+-- where no table is read nothing is written
+pub none-kept : (store : List ℕ) (r : Reply (List Table)) → readOr r ≡ [] → store ≡ storeAfter r store
+unfolding flatMap
+none-kept store r e = ap (λ ts. storeAfter (accepted ts) store) (sym e)
 
 -- "Refusals … change no store"
 pub refused-kept : (store : List ℕ) (r : Reply (List Table)) (q : Refusal) → r ≡ refused q → store ≡ storeAfter r store
-unfolding flatMap
-refused-kept store r q e = ap (λ r. storeAfter r store) (sym e)
+refused-kept store r q e = none-kept store r (ap readOr e)

@@ -91,7 +91,7 @@ tablesBehind w text c n = do
   _ ← ended DatabaseForm s
   accepted ts
 
--- a text on the form whose rows take so many entries
+-- a text with its lines on the form, whose rows take so many entries
 pub record OnForm (text : List ℕ) (size : ℕ) : Type 0 where
   pub value : List Table
   pub read : readTables columns text ≡ accepted value

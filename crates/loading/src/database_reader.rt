@@ -108,11 +108,17 @@ fn store_rows(text: &[u8], store: &mut [u32], size: usize) -> ReadDatabase
     }
 }
 
-// Reads a database's text and stores its rows from the store's start on. A refusal leaves the store as it was.
+// Reads a database's text and stores its rows from the store's start on. A refusal leaves the store as it was. "A book of zero bytes shall mean
+// the same as `guide=1` and `tables=0`."
 pub fn read_database(text: &[u8], store: &mut [u32]) -> ReadDatabase
     ensures { λ r. ⌜ r ≡ databaseReply columns (loadTables columns (now (text .entry)) (now (store .entry))) ⌝ }
     ensures { λ _. ⌜ now (store .exit) ≡ storeAfter (loadTables columns (now (text .entry)) (now (store .entry))) (now (store .entry)) ⌝ }
 {
+    if text.len() == 0 {
+        let database = no_tables();
+        let verdict = Verdict::Accepted;
+        return ReadDatabase { database, verdict };
+    }
     let seen = read_text(text, store, false);
     let verdict = seen.verdict;
     match verdict {

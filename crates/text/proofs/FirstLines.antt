@@ -51,6 +51,15 @@ same-first k s t e = by-lines (firstLine s) (firstLine t) refl refl (sym (first-
         let q = some-inj e in
         same-line (o .0) (o .1) (p .1) f (g ∙ ap (λ l. some (l, p .1)) (sym (ap (λ x. x .0) q))) (ap (λ x. x .1) q)
 
+-- only the empty text has the first lines of the empty text
+pub no-lines : (k : ℕ) (s : List ℕ) → firstLines (suc k) s ≡ firstLines (suc k) [] → s ≡ []
+unfolding firstLine
+no-lines k s e = by-first (same-first k s [] e)
+  where
+    by-first : SameFirst k s [] → s ≡ []
+    by-first (no-line f g) = sym (lines-none k s f) ∙ e ∙ lines-none k [] g
+    by-first (same-line l r q f g h) = none-some g
+
 -- texts whose first lines are the same have the same fewer first lines
 pub fewer-lines : (j k : ℕ) (s t : List ℕ) → j ≤ k → firstLines k s ≡ firstLines k t → firstLines j s ≡ firstLines j t
 unfolding firstLines

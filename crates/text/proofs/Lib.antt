@@ -20,6 +20,8 @@ pub mod Filled
 pub mod RowLines
 pub mod Tables
 pub mod DatabaseRoundTrip
+pub mod EmptyText
+pub mod ZeroBytes
 pub mod Carried
 pub mod FirstBad
 pub mod FirstLines

@@ -15,7 +15,7 @@ use Rattle.text.specs.declared.DueStep.{DueStep}
 use Rattle.text.specs.declared.DueStep.the-variants as due
 use Rattle.text.specs.declared.line_reader.Cursor.{Cursor}
 use Rattle.text.specs.Lines.{KindNode, stepLine}
-use Rattle.text.specs.Texts.{Table, readTables, queryValue, databaseValue, tableEntries}
+use Rattle.text.specs.Texts.{Table, readDatabase, queryValue, databaseValue, tableEntries}
 
 -- what was read, or nothing
 abbrev pub readOr : {A : Type 0} → Reply (List A) → List A
@@ -28,7 +28,7 @@ queryReply r = record { query = queryValue (readOr r); verdict = verdict r }
 -- "Reading a book tests the form before the store's length, 8 entries a row."
 unfoldable pub loadTables : ℕ → List ℕ → List ℕ → Reply (List Table)
 loadTables w text store = do
-  ts ← readTables w text
+  ts ← readDatabase w text
   _ ← require (leb (length (tableEntries ts)) (length store)) ShortSlice
   accepted ts
 

@@ -62,6 +62,11 @@ readTables w text = do
   _ ← ended DatabaseForm s₃
   accepted ts
 
+-- "A book of zero bytes shall mean the same as `guide=1` and `tables=0`."
+unfoldable pub readDatabase : ℕ → List ℕ → Reply (List Table)
+readDatabase w [] = readTables w (bytes "guide=1\ntables=0\n")
+readDatabase w (b ∷ rest) = readTables w (b ∷ rest)
+
 -- a database as a value, with no columns and no rows past its tables
 abbrev pub databaseValue : ℕ → List Table → Database
 databaseValue w ts =

@@ -234,6 +234,27 @@ fn database_texts(random: &mut Random, database: &Database) -> Vec<Input> {
         .collect()
 }
 
+/// Zero bytes, and each byte alone.
+pub fn shortest_texts() -> Vec<Vec<u8>> {
+    std::iter::once(Vec::new()).chain((0..=u8::MAX).map(|byte| vec![byte])).collect()
+}
+
+/// These as books, over stores of no, some and many entries and with too short a database, and as sheets.
+pub fn shortest(random: &mut Random) -> Vec<Input> {
+    let mut found = Vec::new();
+    for text in shortest_texts() {
+        for (room, entries) in [(DATABASE_ROOM, 0), (DATABASE_ROOM, 1), (DATABASE_ROOM, 40), (DATABASE_ROOM - 1, 8)] {
+            let (database, store) = (random.fill(room), random.fill(entries));
+            found.push((Call::ReadDatabase, Slices { text: text.clone(), database, store, ..Slices::default() }));
+        }
+        for at in At::BOTH {
+            let query = random.fill(QUERY_ROOM);
+            found.push((at.read_query(random, 1), Slices { text: text.clone(), query, ..Slices::default() }));
+        }
+    }
+    found
+}
+
 fn over(random: &mut Random, query: &Query, database: &Database) -> Slices {
     Slices {
         query: lent(random, &flat_query(query.lines()), QUERY_ROOM),

@@ -1,6 +1,6 @@
 //! Compares the engine with the reference, call by call: `differential SEED COUNT` on the inputs of COUNT seeds from SEED
-//! on. A case is one call: the reply and all lent slices afterwards. A difference prints its seed and both sides. Then the
-//! rows and lines run of each workload of bench/. The last line is 'N passed, M failed'.
+//! on. A case is one call: the reply and all lent slices afterwards. A difference prints its seed and both sides. Then texts
+//! of at most one byte, and the rows and lines run of each workload of bench/. The last line is 'N passed, M failed'.
 
 mod at;
 mod call;
@@ -10,12 +10,23 @@ mod slices;
 mod tally;
 mod wrapper;
 
+use inputs::Input;
 use reference::random::Random;
 use std::process::ExitCode;
 use tally::Tally;
 
 const SEED: u64 = 1;
 const COUNT: u64 = 1500;
+
+fn calls(tally: &mut Tally, inputs: Vec<Input>) {
+    for (call, before) in inputs {
+        let (mut due, mut left) = (before.clone(), before.clone());
+        let expected = call.by_reference(&mut due);
+        let replied = call.by_engine(&mut left);
+        tally.meet(call, expected, &due);
+        tally.case(|| format!("{call:?} of {before:?}"), &(expected, due), &(replied, left));
+    }
+}
 
 fn main() -> ExitCode {
     let arguments: Vec<String> = std::env::args().skip(1).collect();
@@ -31,15 +42,11 @@ fn main() -> ExitCode {
     let mut tally = Tally::default();
     for seed in seed..seed.saturating_add(count) {
         tally.seed = seed;
-        for (call, before) in inputs::inputs(&mut Random::new(seed)) {
-            let (mut due, mut left) = (before.clone(), before.clone());
-            let expected = call.by_reference(&mut due);
-            let replied = call.by_engine(&mut left);
-            tally.meet(call, expected, &due);
-            tally.case(|| format!("{call:?} of {before:?}"), &(expected, due), &(replied, left));
-        }
+        calls(&mut tally, inputs::inputs(&mut Random::new(seed)));
         wrapper::cases(&mut Random::new(seed), &mut tally);
     }
+    calls(&mut tally, inputs::shortest(&mut Random::new(seed)));
+    wrapper::shortest(&mut tally);
     measured::cases(&mut tally);
     tally.print_met();
     // Fewer inputs may miss a kind or a number.

@@ -28,6 +28,8 @@ pub struct Tally {
     most: [[u32; 3]; 2],
     /// Answers with a 0 in the column that filters are put on.
     pub unknown: u64,
+    /// Finished runs over a database that was read from zero bytes.
+    pub empty: u64,
 }
 
 impl Tally {
@@ -88,20 +90,22 @@ impl Tally {
             println!("{name}: finished runs of up to {nodes} nodes, {rows} rows and {ran} lines run");
         }
         println!("filters over a column that holds 0: {}", self.unknown);
+        println!("finished runs over a database read from zero bytes: {}", self.empty);
     }
 
     /// A case of its own: every call was accepted and at desk and panel every kind; every number was given, 16 never at the
-    /// panel; runs were refused over each limit, and at the panel some finished with the most nodes and rows; filters met 0.
+    /// panel; runs were refused over each limit, and at the panel some finished with the most nodes and rows; filters met 0, and
+    /// runs finished over a book of zero bytes.
     pub fn all_met(&mut self) {
         let accepted = self.accepted.iter().chain(self.kinds.iter().flat_map(|kinds| &kinds[1..]));
         let given = self.numbers[0][1..].iter();
         let refused = self.runs.iter().flat_map(|runs| [2, 17, 18, 19].map(|number| &runs[number]));
         let met = accepted.chain(given).chain(refused).all(|times| *times > 0);
         let most = self.most[1][..2] == [panel::NODES as u32, panel::ROW_LIMIT];
-        if met && self.numbers[1][16] == 0 && most && self.unknown > 0 {
+        if met && self.numbers[1][16] == 0 && most && self.unknown > 0 && self.empty > 0 {
             self.passed += 1;
         } else {
-            println!("FAILED every call and kind is accepted, every number given, every limit met and 0 under filters");
+            println!("FAILED every call and kind is accepted, every number given, every limit, 0 under filters and an empty book met");
             self.failed += 1;
         }
     }

@@ -1,7 +1,7 @@
 //! The same through the safe wrapper of bindings/rust, whose slices always have their room.
 
 use crate::at::At;
-use crate::inputs::for_panel;
+use crate::inputs::{for_panel, shortest_texts};
 use crate::slices::operand_columns;
 use crate::tally::Tally;
 use capeshard::{Answer, Line, Op, Operands, PlanLine, Table};
@@ -178,24 +178,39 @@ fn texts(random: &mut Random, tally: &mut Tally, mut sheet: Vec<u8>, mut book: V
         sheet = damage::text(random, &sheet);
         book = damage::text(random, &book);
     }
+    reads(tally, &sheet, &book);
+}
+
+/// Zero bytes and each byte alone, as a sheet and as a book.
+pub fn shortest(tally: &mut Tally) {
+    shortest_texts().iter().for_each(|text| reads(tally, text, text));
+}
+
+fn reads(tally: &mut Tally, sheet: &[u8], book: &[u8]) {
     for at in At::BOTH {
         let (expected, found) = match at {
-            At::Desk => (read_query(&sheet, NODES), capeshard::Query::read(&sheet)),
-            At::Panel => (panel::read(&sheet), capeshard::panel::read(&sheet)),
+            At::Desk => (read_query(sheet, NODES), capeshard::Query::read(sheet)),
+            At::Panel => (panel::read(sheet), capeshard::panel::read(sheet)),
         };
         let expected = expected.map(|query| lines_of(&query));
         let found = found.map(|query| query.lines()).map_err(given);
-        tally.case(|| format!("{at:?}: read {:?}", shown(&sheet)), &expected, &found);
+        tally.case(|| format!("{at:?}: read {:?}", shown(sheet)), &expected, &found);
     }
     let store = vec![0; COLUMNS * book.len()];
-    let expected = read_database(&book, &store).map(|_| ());
-    let found = capeshard::Database::read(&book).map(|_| ()).map_err(given);
-    tally.case(|| format!("Database::read {:?}", shown(&book)), &expected, &found);
+    let expected = read_database(book, &store).map(|_| ());
+    let found = capeshard::Database::read(book).map(|_| ()).map_err(given);
+    tally.case(|| format!("Database::read {:?}", shown(book)), &expected, &found);
 }
 
-/// One query through desk and panel; each step is made at one of them.
+/// One query through desk and panel; each step is made at one of them. Half of the databases without tables are read from zero
+/// bytes.
 fn values(random: &mut Random, tally: &mut Tally, database: &Database, mut query: Query) {
-    let stored = capeshard::Database::of(&tables_of(database)).expect("the tables have a place");
+    let empty = database.tables == 0 && random.once_in(2);
+    let stored = if empty {
+        capeshard::Database::read(b"").expect("zero bytes are a book")
+    } else {
+        capeshard::Database::of(&tables_of(database)).expect("the tables have a place")
+    };
     let mut held = capeshard::Query::of(&lines_of(&query)).expect("the lines have a place");
     let told = |query: &Query| format!("{:?} over {database:?}", shown(&print_query(query)));
     for at in At::BOTH {
@@ -231,6 +246,7 @@ fn values(random: &mut Random, tally: &mut Tally, database: &Database, mut query
     let rows = [1 + random.below(12), 24, 40, random.below(5), 4096 + random.below(3)][random.below(5)];
     let budget = if random.once_in(4) { random.below(30) as u32 } else { u32::MAX };
     let expected = desk_run(database, &query, rows, budget);
+    tally.empty += u64::from(empty && expected.is_ok());
     let found = held.run(&stored, rows, budget).map_err(given);
     tally.case(|| format!("Desk: run {rows},{budget} of {}", told(&query)), &expected, &found);
     let expected = panel_run(database, &query, budget);

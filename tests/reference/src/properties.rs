@@ -1,6 +1,7 @@
 //! Properties of random inputs. Each seed gives one input; a property that fails names its seed.
 
 mod desk_and_panel;
+mod first_day;
 
 use crate::algebra::{Condition, Relation};
 use crate::answer::{answer, FILE_BYTES};
@@ -12,16 +13,17 @@ use crate::random::{self, Random};
 use crate::rewrite::{apply, rewrite};
 use crate::run::{run, workspace_entries, Answer};
 use crate::selfcheck::{shown, Outcome};
-use crate::text::{print_answer, print_database, print_query, print_steps, read_database, read_query};
+use crate::text::{print_answer, print_database, print_query, print_steps, read_database, read_query, NO_TABLES};
 use crate::value::{slots_of, Database, Node, Query, Refusal, COLUMNS};
 
 /// What random inputs have met: accepted rewrites by kind, refusals by number, filters over rows with a 0 in their column and
-/// those of them that were pushed into a recursion, and what desk and panel have.
+/// those of them that were pushed into a recursion, and what books of zero bytes, desk and panel have.
 #[derive(Default)]
 pub struct Coverage {
     pub kinds: [u32; 7],
     pub numbers: [u32; 20],
     pub unknown: [u32; 2],
+    pub first_day: first_day::Met,
     pub panel: desk_and_panel::Met,
 }
 
@@ -30,7 +32,8 @@ impl Coverage {
         self.numbers[refusal.number as usize] += 1;
     }
 
-    /// Each kind was accepted and each number given; filters met 0, also in a recursion; the panel's share of it.
+    /// Each kind was accepted and each number given; filters met 0, also in a recursion; what books of zero bytes met, and the
+    /// panel's share of it.
     pub fn outcomes(&self) -> Vec<Outcome> {
         let seen = format!("accepted by kind {:?}, refused by number {:?}", &self.kinds[1..], &self.numbers[1..]);
         let full = self.kinds[1..].iter().chain(&self.numbers[1..]).all(|times| *times > 0);
@@ -39,7 +42,7 @@ impl Coverage {
         let seen = format!("{} filters over a 0, {} of them pushed in", self.unknown[0], self.unknown[1]);
         let met = self.unknown.iter().all(|times| *times > 0);
         let unknown = ("filters meet unknown values".to_string(), if met { Ok(seen) } else { Err(seen) });
-        vec![all, unknown, self.panel.outcome()]
+        vec![all, unknown, self.first_day.outcome(), self.panel.outcome()]
     }
 }
 
@@ -47,11 +50,13 @@ impl Coverage {
 type Verdict = Result<bool, String>;
 type Property = fn(&mut Random, &mut Coverage) -> Verdict;
 
-const PROPERTIES: [(&str, Property); 20] = [
+const PROPERTIES: [(&str, Property); 22] = [
     ("a printed query is read back", queries_are_read_back),
     ("a printed database is read back", databases_are_read_back),
     ("a query's refusal names its first bad line", first_bad_line_of_a_query),
     ("a database's refusal names its first bad line", first_bad_line_of_a_database),
+    ("zero bytes are a book and no sheet, one byte is no book", first_day::shortest_texts),
+    ("a book of zero bytes is one without tables", first_day::first_days),
     ("values off the form are refused at their place", values_off_the_form),
     ("a damaged query is refused or gives the meaning", damaged_queries),
     ("a plan has its lines in order", plans),
@@ -197,7 +202,12 @@ fn first_bad_line_of_a_database(random: &mut Random, coverage: &mut Coverage) ->
     let text = print_database(&random::database(random));
     let text = damage::text(random, &text);
     let store = vec![0; COLUMNS * random.below(40)];
-    first_bad_line(&text, 11, random, coverage, |text| read_database(text, &store).map(|read| print_database(&read)))
+    let read = |text: &[u8]| read_database(text, &store).map(|read| print_database(&read));
+    if text.is_empty() {
+        // The second way to write no tables is the one text that isn't printed the same.
+        return if read(&text).as_deref() == Ok(NO_TABLES) { Ok(true) } else { Err(format!("{:?}", read(&text))) };
+    }
+    first_bad_line(&text, 11, random, coverage, read)
 }
 
 fn values_off_the_form(random: &mut Random, coverage: &mut Coverage) -> Verdict {
@@ -543,12 +553,17 @@ fn answers(random: &mut Random, coverage: &mut Coverage) -> Verdict {
     let Some(rows) = meaning(&checked.root, &database.relations(), MOST) else {
         return Ok(false);
     };
-    let ran = printed.lines().last().and_then(|line| line.strip_prefix("ran=")).and_then(|ran| ran.parse().ok());
-    let columns = checked.columns(&checked.root).clone();
-    let expected = Answer { columns, rows: rows.len() as u32, ran: ran.unwrap_or(0) };
-    if ran.is_some() && printed.as_bytes() == print_answer(&expected, &slots_of(&rows)) {
+    if prints(&printed, &checked, &rows) {
         Ok(true)
     } else {
         Err(told())
     }
+}
+
+/// Whether a text is that of an answer with these rows, whatever the lines run.
+fn prints(printed: &str, checked: &Checked, rows: &Relation) -> bool {
+    let ran = printed.lines().last().and_then(|line| line.strip_prefix("ran=")).and_then(|ran| ran.parse().ok());
+    let columns = checked.columns(&checked.root).clone();
+    let expected = Answer { columns, rows: rows.len() as u32, ran: ran.unwrap_or(0) };
+    ran.is_some() && printed.as_bytes() == print_answer(&expected, &slots_of(rows))
 }

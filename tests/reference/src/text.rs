@@ -130,10 +130,13 @@ pub fn read_query(text: &[u8], limit: usize) -> Result<Query, Refusal> {
     Ok(Query::new(&nodes, limit))
 }
 
+/// What a book of zero bytes means.
+pub const NO_TABLES: &[u8] = b"guide=1\ntables=0\n";
+
 /// 11 at the first bad line, then 17 if the store is short. The result's store is the one given, with the rows written
 /// from its start.
 pub fn read_database(text: &[u8], store: &[u32]) -> Result<Database, Refusal> {
-    let mut lines = Lines::new(text);
+    let mut lines = Lines::new(if text.is_empty() { NO_TABLES } else { text });
     lines.due(11, header)?;
     let tables = lines.due(11, |line| keyed(line, "tables", TABLES))?;
     let mut read = Vec::new();
