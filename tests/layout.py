@@ -180,7 +180,7 @@ def the_pages_show_the_cases():
 def shown_wrongly(text):
     """What a page shows of a case is in its folder word for word: the sheet, the book, the step and what is printed.
 
-    A sheet or a book that isn't shown is that of the case reach; a step that isn't named isn't there.
+    A sheet or a book that isn't shown is that of the case reach, unless the page says that the book is empty; a step that isn't named isn't there.
     """
     parts = [(name, "expected.txt", printed + "\n") for name, printed in re.findall(r"`([\w-]+)` prints `([^`\n]*)`", text)]
     found = EXAMPLE.findall(text)
