@@ -37,7 +37,7 @@ enum {
     CAPESHARD_PLAN_ROOM = 1 + CAPESHARD_SLOT_ENTRIES * CAPESHARD_NODES
 };
 
-/* The codes of lines, in the order of document 01's table. */
+/* The codes of lines, in the order of document 01's table, and of document 02's mu. */
 enum {
     CAPESHARD_TABLE = 1, /* table=a */
     CAPESHARD_VAR = 2, /* var=a */
@@ -51,14 +51,20 @@ enum {
     CAPESHARD_SAME = 10, /* same=a,b */
     CAPESHARD_COPY = 11, /* copy=a,b */
     CAPESHARD_DROP = 12, /* drop=a */
-    CAPESHARD_FIX = 13 /* fix=a */
+    CAPESHARD_FIX = 13, /* fix=a */
+    CAPESHARD_MU = 15 /* mu=a; 14 is a plan's code */
 };
+
+/* A mu takes one operand, its body. Before 4 is tested each mu is split into a fix with one node fewer, whose seed are the closed branches of the body
+ * and whose step the open ones (20 if either is missing). The places of 4 to 10, the nodes of rewrites, plans and registers count in the split query;
+ * limit, and the places of 1, 3 and 20, in the query as given. */
 
 /* The number of a refusal (0 of an accepted call) and its place, a line, a node or a table; a place over 4,294,967,295 is given as that. */
 #define CAPESHARD_NUMBER(status) ((uint32_t)((status) >> 32))
 #define CAPESHARD_PLACE(status) ((uint32_t)((status) & UINT32_C(4294967295)))
 
-/* Entries of workspace that a run of so many nodes and fixes with a row limit needs. */
+/* Entries of workspace that a run of so many nodes and fixes with a row limit needs. A mu is one node and no fix as given, and a fix with one node fewer
+ * once it is split: the entries are the same. */
 #define CAPESHARD_WORKSPACE(nodes, fixes, rows) (((size_t)(nodes) + (size_t)(fixes)) * (1 + (size_t)CAPESHARD_COLUMNS * (size_t)(rows)))
 
 /* The wall panel: its most nodes, its row limit, and entries of workspace that are enough for each of its queries. A fix has its own line and its
@@ -76,11 +82,12 @@ uint64_t capeshard_read_query(const uint8_t *text, size_t text_len, size_t limit
 /* Reads a book's text (11, 17); its rows go into the store from its start on. A text of 0 bytes is a book without tables. */
 uint64_t capeshard_read_database(const uint8_t *text, size_t text_len, uint32_t *database, size_t database_len, uint32_t *store, size_t store_len);
 
-/* Checks a query over a database (11, then 2, 1, 3 to 10). */
+/* Checks a query over a database (11, then 2, 1, 3, 20, 4 to 10). */
 uint64_t capeshard_check(const uint32_t *query, size_t query_len, const uint32_t *database, size_t database_len, const uint32_t *store,
                          size_t store_len, size_t limit);
 
-/* Rewrites a query by a kind at a node (as the check, then 12 to 15); accepted, the query is the rule's. */
+/* Rewrites a query by a kind at a node (as the check, then 12 to 15); accepted, the query is the rule's, with each mu split; refused, it is
+ * unchanged. */
 uint64_t capeshard_rewrite(uint32_t *query, size_t query_len, const uint32_t *database, size_t database_len, const uint32_t *store, size_t store_len,
                            size_t limit, uint32_t kind, uint32_t node);
 
@@ -102,7 +109,7 @@ uint64_t capeshard_run(const uint32_t *query, size_t query_len, const uint32_t *
 /* Reads a sheet's text for the panel (1, 2, 17). */
 uint64_t capeshard_panel_read_query(const uint8_t *text, size_t text_len, uint32_t *query, size_t query_len);
 
-/* Checks a query over a database for the panel (11, then 2, 1, 3 to 10). */
+/* Checks a query over a database for the panel (11, then 2, 1, 3, 20, 4 to 10). */
 uint64_t capeshard_panel_check(const uint32_t *query, size_t query_len, const uint32_t *database, size_t database_len, const uint32_t *store,
                                size_t store_len);
 

@@ -14,6 +14,9 @@ of each recursive term, and in no subquery and no other expression. So the open 
 step is one recursive term for each `var` on its path, with the path's filters and joins in its WHERE and FROM, and the columns as
 expressions over these tables. That covers every checked sheet: by 5 to 8 an open node has one open operand, or is a union of two, and
 a fix within a step is closed. What SQLite does not finish in STEPS steps of its machine is skipped and counted.
+
+A `mu` is `WITH RECURSIVE` over its body as typed, and nothing is split: the body's SELECTs are united, those that don't read the
+recursive table first, as SQLite wants them. Its columns are those of the body, whose variable's are those of a branch without it.
 """
 import collections
 import pathlib
@@ -29,7 +32,7 @@ ANSWER = TOP / "target" / "bin" / "answer"
 REFERENCE = TOP / "tests" / "reference" / "Cargo.toml"
 BATCH = 500
 STEPS = 50_000_000
-REFUSALS = range(1, 20)
+REFUSALS = range(1, 21)
 # Sheets that tests/reference makes are checked, and their steps accepted, by construction: only a limit may be met.
 LIMITS = (18, 19)
 OPERANDS = {"table": 0, "var": 0, "fact": 0, "pair": 2, "fix": 2}
@@ -66,6 +69,7 @@ class Sheet:
 
     def __init__(self, text, schema):
         self.schema = schema
+        # The fix or `mu` of each variable.
         self.lines, self.operands, self.fix_of = [], [], {}
         waiting = []
         for line in text.splitlines()[2:]:
@@ -75,17 +79,19 @@ class Sheet:
             waiting = waiting[: len(waiting) - taken] + [node]
             self.lines.append((key, value if key == "pair" else [int(number) for number in value.split(",")]))
             self.operands.append(operands)
-            if key == "fix":
+            if key in ("fix", "mu"):
                 self.fix_of[int(value)] = node
         self.root = waiting.pop()
         self.free = [self.variables(node) for node in range(len(self.lines))]
 
     def variables(self, node):
-        """The variables of a node that no fix in it binds."""
+        """The variables of a node that no fix or `mu` in it binds."""
         key, value = self.lines[node]
         if key == "var":
             return set(value)
         below = [self.variables(operand) for operand in self.operands[node]]
+        if key == "mu":
+            return below[0] - set(value)
         return below[0] | (below[1] - set(value)) if key == "fix" else set().union(*below)
 
     def columns(self, node):
@@ -93,7 +99,7 @@ class Sheet:
         if key == "table":
             return self.schema[value[0]]
         if key == "var":
-            return self.columns(self.operands[self.fix_of[value[0]]][0])
+            return self.columns(self.grounded(self.operands[self.fix_of[value[0]]][0]))
         if key == "fact":
             return {value[0]}
         below = [self.columns(operand) for operand in self.operands[node]]
@@ -104,6 +110,13 @@ class Sheet:
         if key == "drop":
             return below[0] - set(value)
         return below[0]
+
+    def grounded(self, node):
+        """A node, or of a union whose variable is sought a side without variables: a body has one somewhere."""
+        if not self.free[node]:
+            return node
+        sides = self.operands[node] if self.lines[node] == ("pair", "union") else []
+        return next((found for found in map(self.grounded, sides) if found is not None), None)
 
     def terms(self, node):
         """The SELECTs whose union a node is; closed operands stand as the tables of their own expressions."""
@@ -121,6 +134,8 @@ class Sheet:
             return [joined(left, right) for left in below[0] for right in below[1]]
         if value == "except":
             return [without(left, self.table(self.operands[node][1])) for left in below[0]]
+        if key == "mu":
+            return sorted(below[0], key=lambda term: f"n{node}" in term.tables)
         return [single(key, value, term) for term in below[0]]
 
     def table(self, node):
@@ -138,13 +153,40 @@ class Sheet:
     def traits(self):
         """What is worth counting."""
         yield from {value if key == "pair" else key for key, value in self.lines}
-        steps = [self.operands[node][1] for node in self.fix_of.values()]
-        if any(len(self.terms(step)) > 1 for step in steps if self.free[step]):
+        steps = [self.operands[node][-1] for node in self.fix_of.values()]
+        if any(self.recursive(node) > 1 for node in self.fix_of.values()):
             yield "several recursive terms"
-        if any(self.lines[node][0] == "fix" for step in steps for node in self.below(step)):
-            yield "fix in a step"
+        if any(self.lines[node][0] in ("fix", "mu") for step in steps for node in self.below(step)):
+            yield "fix or mu in a step or body"
+        yield from {trait for node, (key, _) in enumerate(self.lines) if key == "mu" for trait in self.mu_traits(node)}
         if not self.columns(self.root):
             yield "no columns"
+
+    def recursive(self, node):
+        """How many SELECTs of a fix or `mu` read its own table."""
+        return sum(f"n{node}" in term.tables for term in self.terms(node))
+
+    def mu_traits(self, node):
+        body = self.operands[node][0]
+        branches = list(self.branches(body))
+        closed = [not self.free[branch] for branch in branches]
+        if closed.count(True) > 1:
+            yield "mu of several closed branches"
+        if closed.count(False) > 1:
+            yield "mu of several open branches"
+        if closed != sorted(closed, reverse=True):
+            yield "mu with a closed branch after an open one"
+        if any(self.lines[inner][0] == "mu" for inner in self.below(body)):
+            yield "mu in a mu"
+        if any(self.lines[inner] == ("pair", "union") for branch in branches for inner in self.below(branch)):
+            yield "mu with a union under another line"
+
+    def branches(self, node):
+        if self.lines[node] != ("pair", "union"):
+            yield node
+            return
+        for operand in self.operands[node]:
+            yield from self.branches(operand)
 
     def below(self, node):
         yield node

@@ -165,10 +165,13 @@ pub enum Line {
     Copy(u32, u32),
     Drop(u32),
     Fix(u32),
+    /// Recursion typed in one piece: its one operand is split into the seed and the step of a fix.
+    Mu(u32),
 }
 
 const FIX: u32 = 13;
 const START: u32 = 14;
+const MU: u32 = 15;
 
 impl Line {
     fn flat(self) -> [u32; LINE_ENTRIES] {
@@ -186,6 +189,7 @@ impl Line {
             Line::Copy(a, b) => [11, a, b],
             Line::Drop(a) => [12, a, 0],
             Line::Fix(v) => [FIX, v, 0],
+            Line::Mu(v) => [MU, v, 0],
         }
     }
 
@@ -205,6 +209,7 @@ impl Line {
             11 => Line::Copy(a, b),
             12 => Line::Drop(a),
             FIX => Line::Fix(a),
+            MU => Line::Mu(a),
             code => unreachable!("no line has the code {code}"),
         }
     }
@@ -444,7 +449,7 @@ impl Query {
         self.entries().map(Line::of).collect()
     }
 
-    /// Checks the query over a database (11, then 2, 1, 3 to 10).
+    /// Checks the query over a database (11, then 2, 1, 3, 20, 4 to 10). From 4 on places count in the query with each `mu` split.
     pub fn check(&self, database: &Database) -> Result<(), Refusal> {
         // SAFETY: each pointer and length is that of one slice, and nothing is written.
         reply(unsafe {
@@ -460,7 +465,8 @@ impl Query {
         })
     }
 
-    /// Rewrites the query by a kind at a node, nodes counting from 1 (as the check, then 12 to 15); a refusal leaves it as it was.
+    /// Rewrites the query by a kind at a node, nodes counting from 1 in the query with each `mu` split (as the check, then 12 to 15). Accepted, no `mu` is
+    /// left in it; a refusal leaves it as it was.
     pub fn rewrite(&mut self, database: &Database, kind: u32, node: u32) -> Result<(), Refusal> {
         // SAFETY: each pointer and length is that of one slice, and the written one is borrowed here alone.
         reply(unsafe {
@@ -502,6 +508,7 @@ impl Query {
     pub fn run(&self, database: &Database, rows: usize, budget: u32) -> Result<Answer, Refusal> {
         // A row limit over the highest is refused before any workspace is asked for.
         let room = if rows <= ROWS { rows } else { 0 };
+        // A `mu` is one node more and one fix fewer than what it is split into, so the sum is the split query's.
         let registers = self.entries().count() + self.entries().filter(|line| line[0] == FIX).count();
         let mut workspace = vec![0; registers * (1 + COLUMNS * room)];
         let mut answer = vec![0; COLUMNS * room];

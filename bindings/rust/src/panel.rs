@@ -20,7 +20,7 @@ pub fn read(text: &[u8]) -> Result<Query, Refusal> {
     Ok(query)
 }
 
-/// Checks a query over a database (11, then 2, 1, 3 to 10).
+/// Checks a query over a database (11, then 2, 1, 3, 20, 4 to 10).
 pub fn check(query: &Query, database: &Database) -> Result<(), Refusal> {
     // SAFETY: each pointer and length is that of one slice, and nothing is written.
     reply(unsafe {

@@ -29,3 +29,10 @@ pub mod Alike
 pub mod Swap
 pub mod Conditions
 pub mod Sizes
+pub mod FreeOnly
+pub mod Branches
+pub mod SplitBodies
+pub mod SplitMeaning
+pub mod MuLeast
+pub mod SplitTerms
+pub mod SplitKeeps

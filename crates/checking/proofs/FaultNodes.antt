@@ -13,7 +13,7 @@ use Rattle.laws.proofs.Tests.{and-true-left, and-true-right}
 use Rattle.laws.proofs.Passes.{every-same, all-same}
 use Rattle.algebra.specs.declared.Pairing.{Pairing}
 use Rattle.algebra.specs.declared.Pairing.the-variants.{Union, Join, Except}
-use Rattle.algebra.specs.Term.{Term, table, var, fact, pair, filter, copy, drop, fix}
+use Rattle.algebra.specs.Term.{Term, table, var, fact, pair, filter, copy, drop, fix, mu}
 use Rattle.algebra.specs.Columns.{Cols, noCols, Schema, cols, size, named}
 use Rattle.relation.specs.declared.Columns.{Columns}
 use Rattle.relation.specs.Rows.{columns, colsOf, columnsOf}
@@ -22,7 +22,7 @@ use Rattle.database.specs.declared.Refusal.the-variants.{ColumnFault, NoTable}
 use Rattle.database.specs.Stored.{schema}
 use Rattle.database.specs.Refusals.{Reply, accepted, noFault}
 use Rattle.query.specs.declared.Node.{Node}
-use Rattle.query.specs.declared.Node.the-variants.{Table, Var, Fact, Pair, Filter, Copy, Drop, Fix}
+use Rattle.query.specs.declared.Node.the-variants.{Table, Var, Fact, Pair, Filter, Copy, Drop, Fix, Mu}
 use Rattle.query.specs.declared.Query.{Query}
 use Rattle.query.specs.Lines.{nodes, lines}
 use Rattle.query.specs.Check.{unless, sameCols, sidesOk}
@@ -46,6 +46,7 @@ faultOf (Filter f) tables last first n = noFault (unless (every (colsOf columns 
 faultOf (Copy c d) tables last first n = noFault (unless (colsOf columns last c && not (colsOf columns last d)) (ColumnFault n))
 faultOf (Drop c) tables last first n = noFault (unless (colsOf columns last c) (ColumnFault n))
 faultOf (Fix v) tables last first n = noFault (unless (sameCols columns (colsOf columns last) (colsOf columns first)) (ColumnFault n))
+faultOf (Mu v) tables last first n = accepted tt
 
 -- sets are compared below the width, where they are held
 held-same : (D E : Cols) → sameCols columns (colsOf columns (columnsOf columns D)) (colsOf columns (columnsOf columns E)) ≡ sameCols columns D E
@@ -93,6 +94,7 @@ module _ (d : Database) (vs : List Visit) (i n : ℕ) (C : Cols) (v : List ℕ) 
       let k : 1 ≤ i = omega (arith, size-pos a, size-pos b) in
       ap fault (ap₂ (λ (x y : Columns). sameCols columns (colsOf columns x) (colsOf columns y)) (f k ∙ ap (nodeColumns G) p) (g k ∙ ap (nodeColumns G) q)
       ∙ held-same (cols G (cols G C a) b) (cols G C a))
+  fault-node (mu w a) u h e = refl
 
 -- 9 or 10 at a node: j is the last operand's place, k the first one's
 pub fault-at : (q : Query) (start : List ℕ) (s : Shaped q start) (d : Database) → Formed q → (i : ℕ) → i < q .count

@@ -1,9 +1,10 @@
 -- A reply is a value or a refusal, not both; of tests one after the other, an accepted reply says that each accepted.
 use mathlib.Core.Path.{_≡_, refl, sym}
+use mathlib.Core.List.{List, [], _∷_}
 use Prim.Native.Nat.{ℕ}
 use native.Mathlib.Omega.{arith}
 use Rattle.database.specs.declared.Refusal.{Refusal}
-use Rattle.database.specs.Refusals.{Reply, refused, accepted, _>>=_}
+use Rattle.database.specs.Refusals.{Reply, refused, accepted, noFault, _>>=_}
 
 pub accepted-refused : {A : Type 0} {B : Type 0} {a : A} {r : Refusal} → accepted a ≡ refused r → B
 accepted-refused e = let z : _≡_ {A = ℕ} 0 1 = cc in absurd (omega arith)
@@ -18,3 +19,7 @@ pub accepted-then : {A B : Type 0} (r : Reply A) (f : A → Reply B) {b : B} →
     → (a : A) × (r ≡ accepted a) × (f a ≡ accepted b)
 accepted-then (refused r) f e = accepted-refused (sym e)
 accepted-then (accepted a) f e = (a, refl, e)
+
+pub no-fault : (l : List Refusal) {u : Unit {0}} → noFault l ≡ accepted u → l ≡ []
+no-fault [] e = refl
+no-fault (r ∷ l) e = accepted-refused (sym e)

@@ -1,7 +1,7 @@
 -- Demand 3. A sheet checked over some book; any list of steps, kinds and nodes any numbers, refused ones included, each over any stored book with
 -- the first book's columns, each made with a node limit of its own (desk or panel) and each given the sheet that the one before handed back; a final
 -- stored book with those columns; any node limit, row limit and budget and any slices: if the run of the held sheet finishes, its columns and rows are
--- those of the FIRST sheet's meaning over that book.
+-- those of the FIRST sheet's meaning, as typed, over that book.
 use mathlib.Core.Path.{_≡_, ap, sym, _∙_, subst}
 use mathlib.Core.List.{List, [], _∷_}
 use Prim.Native.Nat.{ℕ, _≤_}
@@ -21,9 +21,10 @@ use Rattle.database.specs.Refusals.{accepted}
 use Rattle.database.proofs.Stored.{typed-tables}
 use Rattle.database.proofs.Columns.{same-schema}
 use Rattle.query.specs.declared.Query.{Query}
-use Rattle.query.specs.Check.{checkOver, meaningOver}
+use Rattle.query.specs.Check.{checkOver, sheetMeaning}
 use Rattle.query.proofs.CheckedOver.{check-over-iff}
 use Rattle.query.proofs.NodeLimits.{checked-within}
+use Rattle.query.proofs.SplitMeans.{checked-means}
 use Rattle.rewrite.specs.Rewrite.{Step, held}
 use Rattle.rewrite.proofs.Held.{Kept, kept-all}
 use Rattle.machine.specs.Run.{Answer, runQuery}
@@ -48,7 +49,7 @@ module _ (w limit : ℕ) (q : Query) (d₀ : Database) (store₀ : List ℕ) (t 
 
   pub rewrites-invisible : (steps : List Step) → OverColumns w d₀ steps
       → (most L budget : ℕ) (workspace answer : List ℕ) (a : Answer) → runQuery w most (held w q steps) d store L budget workspace answer ≡ accepted a
-      → Answers w d store t a
+      → Answers w d store q t a
   rewrites-invisible steps over most L budget workspace answer a e =
       let k = heldAt steps over in
       let p = held w q steps in
@@ -60,9 +61,13 @@ module _ (w limit : ℕ) (q : Query) (d₀ : Database) (store₀ : List ℕ) (t 
       let closed : Closed (schema w d) t = subst (λ (H : Schema). Closed H t) (same-schema w d₀ d same) (first .well-formed .closed) in
       let columns : cols (schema w d) noCols (k .term) ≡ cols (schema w d) noCols t = k .swap .closed closed .1 in
       let means = k .swap .keeps (tables w d store) (typed-tables w d store) .means (λ v m. ⊥) (λ v m. ⊥) (λ v m. ((λ x. x), (λ x. x))) in
+      let typed = checked-means first w d store in
+      let typed-last = checked-means (k .checked) w d store in
       record {
         columns = end .columns ∙ ap (columnsOf w) columns;
-        rows = subst (λ (D : Cols). Shows w D (a .rows) (meaningOver w d store t)) columns (shows-map (λ m. (means m .1, means m .0)) (end .rows));
+        rows =
+            subst (λ (D : Cols). Shows w D (a .rows) (sheetMeaning w d store q)) columns
+            (shows-map (λ m. ((λ r. typed m .1 (means m .1 (typed-last m .0 r))), λ r. typed-last m .1 (means m .0 (typed m .0 r)))) (end .rows));
       }
 
   -- two lists from one sheet, run over one book: the same columns and the same rows, entry for entry, wherever both finish

@@ -60,6 +60,7 @@ fn node_of(line: FlatLine) -> Node
         11 => Node::Copy(a, b),
         12 => Node::Drop(a),
         13 => Node::Fix(a),
+        15 => Node::Mu(a),
         _ => Node::Table(4294967295),
     }
 }

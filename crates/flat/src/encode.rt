@@ -111,6 +111,7 @@ fn flat_line(node: Node) -> FlatLine
         Node::Copy(a, b) => FlatLine { code: 11, a, b },
         Node::Drop(a) => FlatLine { code: 12, a, b: 0 },
         Node::Fix(a) => FlatLine { code: 13, a, b: 0 },
+        Node::Mu(a) => FlatLine { code: 15, a, b: 0 },
     }
 }
 

@@ -5,7 +5,7 @@ use mathlib.Core.Logic.{_⊎_, inl, inr, _≢_}
 use Prim.Native.Nat.{ℕ}
 use lib.Dec.{T, eqb}
 use borrow.Author.Tests.{eqb-true, eqb-false, eq-eqb}
-use Rattle.laws.specs.Lists.{if_then_else_}
+use Rattle.laws.specs.Lists.{if_then_else_, _==_}
 
 pub true-false {ℓ} : {A : Type ℓ} → true ≡ false → A
 true-false e = absurd (subst T e tt)
@@ -77,3 +77,12 @@ if-same false = refl
 pub if-apply {ℓ κ} : {A : Type ℓ} {B : Type κ} (f : A → B) (b : Bool) (x y : A) → f (if b then x else y) ≡ if b then f x else f y
 if-apply f true x y = refl
 if-apply f false x y = refl
+
+-- a test agrees with true where it passes, and with false where it fails
+pub agrees-true : (b : Bool) → b ≡ b == true
+agrees-true true = refl
+agrees-true false = refl
+
+pub agrees-false : (b : Bool) → not b ≡ b == false
+agrees-false true = refl
+agrees-false false = refl

@@ -10,7 +10,7 @@ use lib.Seq.{take-at, drop-at}
 use Rattle.laws.proofs.EachMember.{getD-map}
 use Rattle.algebra.specs.declared.Pairing.{Pairing}
 use Rattle.algebra.specs.declared.Condition.{Condition}
-use Rattle.algebra.specs.Term.{Term, table, var, fact, pair, filter, copy, drop, fix}
+use Rattle.algebra.specs.Term.{Term, table, var, fact, pair, filter, copy, drop, fix, mu}
 use Rattle.algebra.specs.Columns.{Cols, noCols, Schema, cols, size, free}
 use Rattle.relation.specs.Rows.{columns, columnsOf}
 use Rattle.database.specs.declared.Database.{Database}
@@ -118,6 +118,7 @@ module _ (d : Database) (q : Query) (t : Term) (written : nodes q ≡ lines t) w
     stands a C v n (part-left (visits G C v n a) _ p),
     stands b (cols G C a) (u ∷ v) (n + size a) (part-left (visits G (cols G C a) (u ∷ v) (n + size a) b) _ (part-right (visits G C v n a) _ (visits-length G C v n a) p)),
   )
+  stands (mu u a) C v n p = (told C v n (mu u a) p, stands a C v n (part-left (visits G C v n a) _ p))
 
   pub here-stands : {C : Cols} {n : ℕ} {a : Term} → Here C n a → Stands G q facts C n a
   here-stands {C} {n} {a} h = stands a C (h .fixes) n (h .visited)
@@ -200,6 +201,14 @@ module _ (d : Database) (q : Query) (t : Term) (written : nodes q ≡ lines t) w
       stacked = stacked-left _ refl (h .stacked);
     }
 
+    mu-down : {u : ℕ} {a : Term} → Here C n (mu u a) → Here C n a
+    unfolding visits lines
+    mu-down {a = a} h = record {
+      fixes = h .fixes;
+      visited = part-left (visits G C (h .fixes) n a) _ (h .visited);
+      stacked = stacked-left _ refl (h .stacked);
+    }
+
   -- around a term's own node, and past it, are the columns around the term
   around-past : (a : Term) (C : Cols) (n : ℕ) → size a < n → around G C a n ≡ C
   unfolding around size
@@ -211,6 +220,7 @@ module _ (d : Database) (q : Query) (t : Term) (written : nodes q ≡ lines t) w
   around-past (copy c x a) C n h = around-past a C n (omega arith)
   around-past (drop c a) C n h = around-past a C n (omega arith)
   around-past (fix v a b) C n h = rw (lt-leb n (size a) (omega arith), lt-leb n (size a + size b) (omega arith))
+  around-past (mu v a) C n h = around-past a C n (omega arith)
 
   around-own : (a : Term) (C : Cols) (n : ℕ) → size a ≡ n → around G C a n ≡ C
   unfolding around size
@@ -222,6 +232,7 @@ module _ (d : Database) (q : Query) (t : Term) (written : nodes q ≡ lines t) w
   around-own (copy c x a) C n h = around-past a C n (omega arith)
   around-own (drop c a) C n h = around-past a C n (omega arith)
   around-own (fix v a b) C n h = rw (lt-leb n (size a) (omega arith), lt-leb n (size a + size b) (omega arith))
+  around-own (mu v a) C n h = around-past a C n (omega arith)
 
   -- node n of a term whose lines follow m others
   pub record NodeOf (C : Cols) (m : ℕ) (a : Term) (n : ℕ) : Type 0 where
@@ -278,6 +289,10 @@ module _ (d : Database) (q : Query) (t : Term) (written : nodes q ≡ lines t) w
           (node-of b (cols G C a) (m + size a) (n - size a) (omega arith) (omega arith) (fix-right s))
       | yes r ↦ own (fix u a b) C m n s (omega arith)
     ]
+  ]
+  node-of (mu u a) C m n h k s = elim (decLt (size a) n) [
+    | no p ↦ same-operand a (mu u a) C m n refl (node-of a C m n h (omega arith) (mu-down s))
+    | yes p ↦ own (mu u a) C m n s (omega arith)
   ]
 
   -- the whole query's term

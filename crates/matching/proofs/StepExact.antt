@@ -9,7 +9,7 @@ use native.Mathlib.Decide.{decLt}
 use lib.ListN.{length, List·getD-eq-default}
 use borrow.Author.Tests.{le-leb, lt-leb}
 use Rattle.laws.proofs.Tests.{true-false}
-use Rattle.algebra.specs.Term.{Term, table, var, fact, pair, filter, copy, drop, fix}
+use Rattle.algebra.specs.Term.{Term, table, var, fact, pair, filter, copy, drop, fix, mu}
 use Rattle.algebra.specs.Columns.{Cols, noCols, Schema, size}
 use Rattle.algebra.specs.Rules.{Match, match, stableEnough, unusedEnough, closedEnough, written}
 use Rattle.algebra.proofs.Redex.{redex, matched}
@@ -18,15 +18,17 @@ use Rattle.database.specs.declared.Database.{Database}
 use Rattle.database.specs.declared.Refusal.the-variants.{NoMatch, Unstable, Used, OpenOperand}
 use Rattle.database.specs.Stored.{schema}
 use Rattle.database.specs.Refusals.{Reply, accepted, require, orRefuse, _>>=_}
+use Rattle.query.specs.declared.Node.{Node}
 use Rattle.query.specs.declared.Node.the-variants.{Table}
 use Rattle.query.specs.declared.Query.{Query}
 use Rattle.query.specs.declared.Facts.{Facts}
-use Rattle.query.specs.Lines.{nodeLimit, nodes, read}
+use Rattle.query.specs.Lines.{nodeLimit, nodes, lines, read}
 use Rattle.query.specs.Facts.{visits, factsOf}
 use Rattle.query.specs.Check.{checkOver}
 use Rattle.query.specs.Shape.{root, hasStep}
 use Rattle.query.proofs.CheckReply.{Checked}
 use Rattle.query.proofs.CheckedOver.{check-over-iff}
+use Rattle.query.proofs.CheckedTerms.{own-checked}
 use Rattle.query.proofs.Reading.{size-lines}
 use Rattle.query.proofs.Starts.{size-pos}
 use Rattle.rewrite.specs.Places.{lineAt, startAt, last}
@@ -89,6 +91,7 @@ module _ (d : Database) (limit : ℕ) (q : Query) (t : Term) (checked : Checked 
       let m = step-start d limit q t checked counted fits (record { var = v; seed = a; step = b }) h in
       let p = size-pos a in
       omega arith
+  fix-seeded (mu v a) h e = true-false (sym e)
 
   pub placed : Placed q facts
   placed = record { fits = fits; low = low d limit q t checked counted fits; seeded = seeded }
@@ -161,16 +164,19 @@ module _ (d : Database) (limit : ℕ) (q : Query) (t : Term) (checked : Checked 
       ]
     ]
 
--- the definition's step of a query that is checked over a database
-pub step-exact : (limit : ℕ) (q : Query) (d : Database) (store : List ℕ) (t : Term) → checkOver columns limit q d store ≡ accepted t
+-- the definition's step of a query that is checked over a database and needs no splitting
+pub step-exact : (limit : ℕ) (q : Query) (d : Database) (store : List ℕ) (t : Term) → checkOver columns limit q d store ≡ accepted t → nodes q ≡ lines t
     → length (nodes q) ≡ q .count → q .count ≤ nodeLimit → (k n : ℕ)
     → stepReply q (factsOf (schema columns d) (visits (schema columns d) noCols [] 0 t)) k n ≡ rewrite columns limit q d store k n
 unfolding rewrite
-step-exact limit q d store t e counted fits k n =
-    let checked = check-over-iff columns limit q d store t .0 e .1 in
-    sym (step-reply d limit q t checked counted fits k n) ∙ rw e
+step-exact limit q d store t e own counted fits k n =
+    let checked = own-checked own (check-over-iff columns limit q d store t .0 e .1) in
+    let G = schema columns d in
+    sym (step-reply d limit q t checked counted fits k n)
+    ∙ ap (λ (ns : List Node). orRefuse (endedAt ns n) NoMatch >>= λ a. rule G (around G noCols t n) k a >>= λ b. accepted (withNodes q (replaced ns n a b))) own
+    ∙ rw e
 
-pub checked-placed : (limit : ℕ) (q : Query) (d : Database) (store : List ℕ) (t : Term) → checkOver columns limit q d store ≡ accepted t
+pub checked-placed : (limit : ℕ) (q : Query) (d : Database) (store : List ℕ) (t : Term) → checkOver columns limit q d store ≡ accepted t → nodes q ≡ lines t
     → length (nodes q) ≡ q .count → q .count ≤ nodeLimit
     → Placed q (factsOf (schema columns d) (visits (schema columns d) noCols [] 0 t))
-checked-placed limit q d store t e counted fits = placed d limit q t (check-over-iff columns limit q d store t .0 e .1) counted fits
+checked-placed limit q d store t e own counted fits = placed d limit q t (own-checked own (check-over-iff columns limit q d store t .0 e .1)) counted fits

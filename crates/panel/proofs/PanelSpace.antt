@@ -10,6 +10,7 @@ use Rattle.laws.specs.Lists.{every, any, sift, all, lowest}
 use Rattle.algebra.specs.Term.{Term}
 use Rattle.algebra.specs.Term as T
 use Rattle.algebra.specs.Columns.{with, cols, free, size, fixNumbers, fixes}
+use Rattle.algebra.specs.Split.{split}
 use Rattle.algebra.specs.declared.Condition.the-variants.{Eq}
 use Rattle.relation.specs.Rows.{columns}
 use Rattle.database.specs.declared.Database.{Database}
@@ -18,7 +19,7 @@ use Rattle.database.specs.Stored.{checkDatabase}
 use Rattle.database.specs.Refusals.{refused, accepted}
 use Rattle.query.specs.declared.Query.{Query}
 use Rattle.query.specs.Lines.{checkForm, lines, push, read, termOf}
-use Rattle.query.specs.Check.{unless, firstPass, secondPass, faults, checkQuery, checkOver}
+use Rattle.query.specs.Check.{splitFaults, splitTerm, unless, firstPass, secondPass, faults, checkQuery, checkOver}
 use Rattle.text.specs.Texts.{queryValue, databaseValue}
 use Rattle.machine.specs.Limits.{panelLimits, mostFixes, enoughSpace}
 use Rattle.machine.specs.Run.{spaceFor, begin}
@@ -44,7 +45,7 @@ abbrev pub noTables : Database
 noTables = databaseValue columns []
 
 deep-checked : checkOver columns (panelLimits .nodes) deepSheet noTables [] ≡ accepted deepest
-unfolding every any sift all lowest with cols free size fixNumbers fixes unless firstPass secondPass faults deep checkDatabase lines push read termOf checkForm checkQuery checkOver
+unfolding every any sift all lowest with cols free size fixNumbers fixes split splitFaults splitTerm unless firstPass secondPass faults deep checkDatabase lines push read termOf checkForm checkQuery checkOver
 deep-checked = refl
 
 -- no shorter one does: the worst sheet then gets 17

@@ -45,7 +45,7 @@ pub fn read_query(text: &[u8]) -> ReadQuery
 
 // Checks a query over a stored book: 33 nodes give 2 with place 0.
 pub fn check(query: Query, database: Database, store: &[u32]) -> CheckedQuery
-    ensures { λ r. ⌜ r ≡ checkedValue (schema columns database) (checkOver columns (panelLimits .nodes) query database (now (store .entry))) ⌝ }
+    ensures { λ r. ⌜ r ≡ checkedValue (schema columns database) query (checkOver columns (panelLimits .nodes) query database (now (store .entry))) ⌝ }
 {
     checking::check(query, database, store, PANEL_NODES)
 }

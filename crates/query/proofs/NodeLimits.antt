@@ -4,33 +4,30 @@ use mathlib.Core.List.{List}
 use Prim.Native.Nat.{ℕ, _≤_}
 use native.Mathlib.Omega.{arith}
 use borrow.Author.Tests.{le-leb}
-use lib.ListN.{length, take, length-take, length-map}
 use Rattle.algebra.specs.Term.{Term}
 use Rattle.algebra.specs.Columns.{Schema, size}
+use Rattle.algebra.specs.Split.{split}
 use Rattle.database.specs.declared.Database.{Database}
 use Rattle.database.specs.Stored.{schema}
 use Rattle.database.specs.Refusals.{accepted}
 use Rattle.database.proofs.Replies.{accepted-same}
-use Rattle.query.specs.declared.Line.{Line}
 use Rattle.query.specs.declared.Query.{Query}
 use Rattle.query.specs.Lines.{nodes, checkForm}
 use Rattle.query.specs.Check.{checkQuery, checkOver}
-use Rattle.query.proofs.Reading.{size-lines}
 use Rattle.query.proofs.TermLines.{term-lines}
-use Rattle.query.proofs.CheckReply.{Checked}
+use Rattle.query.proofs.CheckReply.{CheckedSplit}
+use Rattle.query.proofs.CheckedTerms.{term-few}
 use Rattle.query.proofs.CheckedOver.{check-over-iff}
 
--- a query has no more lines than it counts
-pub few-nodes : (q : Query) → length (nodes q) ≤ q .count
-few-nodes q = omega (arith, length-map (take (q .count) (q .lines)) (λ (l : Line). l .node), length-take (q .count) (q .lines))
-
 -- what a query's check says under one limit, under any that is no lower than its count
-pub checked-within : {limit : ℕ} (limit′ : ℕ) {q : Query} {G : Schema} {t : Term} → Checked limit q G t → q .count ≤ limit′ → Checked limit′ q G t
-checked-within limit′ c h = record { in-range = (c .in-range .0, h); on-form = c .on-form; written = c .written; well-formed = c .well-formed }
+pub checked-within : {limit : ℕ} (limit′ : ℕ) {q : Query} {G : Schema} {t : Term} → CheckedSplit limit q G t → q .count ≤ limit′ → CheckedSplit limit′ q G t
+checked-within limit′ c h = record { in-range = (c .in-range .0, h); on-form = c .on-form; typed = c .typed; written = c .written; is-split = c .is-split; well-formed = c .well-formed }
 
 -- a query has one checked term, whatever the limits
-pub one-term : {limit limit′ : ℕ} (q : Query) {G : Schema} (t u : Term) → Checked limit q G t → Checked limit′ q G u → t ≡ u
-one-term q t u c e = accepted-same (sym (term-lines (nodes q) t .1 (c .written)) ∙ term-lines (nodes q) u .1 (e .written))
+pub one-term : {limit limit′ : ℕ} (q : Query) {G : Schema} (t u : Term) → CheckedSplit limit q G t → CheckedSplit limit′ q G u → t ≡ u
+one-term q t u c e =
+    let same : c .typed ≡ e .typed = accepted-same (sym (term-lines (nodes q) (c .typed) .1 (c .written)) ∙ term-lines (nodes q) (e .typed) .1 (e .written)) in
+    sym (c .is-split) ∙ ap split same ∙ e .is-split
 
 module _ (w limit : ℕ) (q : Query) (d : Database) (store : List ℕ) (t : Term) (checked : checkOver w limit q d store ≡ accepted t) where
   -- an accepted query is within the limit, and so is its term
@@ -38,9 +35,7 @@ module _ (w limit : ℕ) (q : Query) (d : Database) (store : List ℕ) (t : Term
   accepted-within = check-over-iff w limit q d store t .0 checked .1 .in-range .1
 
   pub few-checked : size t ≤ limit
-  few-checked =
-      let c = check-over-iff w limit q d store t .0 checked .1 in
-      omega (arith, accepted-within, few-nodes q, ap length (c .written), size-lines t)
+  few-checked = omega (arith, accepted-within, term-few (check-over-iff w limit q d store t .0 checked .1))
 
 module _ (q : Query) (limit limit′ : ℕ) (h : q .count ≤ limit) (h′ : q .count ≤ limit′) where
   form-limits : (w : ℕ) → checkForm w limit q ≡ checkForm w limit′ q

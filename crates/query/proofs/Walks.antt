@@ -5,7 +5,7 @@ use Prim.Native.Nat.{ℕ, _+_}
 use native.Mathlib.Omega.{arith}
 use lib.ListN.{length, length-append}
 use Rattle.laws.proofs.Passes.{walk, walk-append, walk-one}
-use Rattle.algebra.specs.Term.{Term, table, var, fact, pair, filter, copy, drop, fix}
+use Rattle.algebra.specs.Term.{Term, table, var, fact, pair, filter, copy, drop, fix, mu}
 use Rattle.algebra.specs.Columns.{Cols, Schema, cols, size, fixNumbers}
 use Rattle.database.specs.declared.Refusal.{Refusal}
 use Rattle.query.specs.Check.{firstPass, secondPass}
@@ -17,6 +17,17 @@ pub numbers-append : (l m : List Visit) → numbers (l ++ m) ≡ numbers l ++ nu
 unfolding numbers
 numbers-append [] m = refl
 numbers-append (x ∷ l) m = ap (λ (r : List ℕ). fixNumber (x .term) ++ r) (numbers-append l m) ∙ sym (append-assoc (fixNumber (x .term)) (numbers l) (numbers m))
+
+-- a walk over the nodes of one or two operands and the line that takes them
+module _ (f : List Visit → Visit → List Refusal) (s : List Visit) where
+  pub walk-last : (l : List Visit) (x : Visit) {r : List Refusal} → walk f s l ≡ r → walk f s (l ++ (x ∷ [])) ≡ r ++ f (s ++ l) x
+  walk-last l x e = walk-append f s l (x ∷ []) ∙ ap₂ (λ (p q : List Refusal). p ++ q) e (walk-one f (s ++ l) x)
+
+  pub walk-two : (k l : List Visit) (x : Visit) {r q : List Refusal} → walk f s k ≡ r → walk f (s ++ k) l ≡ q
+      → walk f s (k ++ (l ++ (x ∷ []))) ≡ r ++ (q ++ f ((s ++ k) ++ l) x)
+  walk-two k l x e g =
+      walk-append f s k (l ++ (x ∷ [])) ∙ ap₂ (λ (p q : List Refusal). p ++ q) e
+      (walk-append f (s ++ k) l (x ∷ []) ∙ ap₂ (λ (p q : List Refusal). p ++ q) g (walk-one f ((s ++ k) ++ l) x))
 
 module _ (G : Schema) where
   -- the fixes among the nodes of a term are the term's
@@ -38,20 +49,10 @@ module _ (G : Schema) where
       numbers-append (visits G C v n a) (l ++ (visit n (fix u a b) C v ∷ []))
       ∙ ap₂ (λ (p q : List ℕ). p ++ q) (numbers-visits C v n a)
       (numbers-append l (visit n (fix u a b) C v ∷ []) ∙ ap (λ (p : List ℕ). p ++ (u ∷ [])) (numbers-visits (cols G C a) (u ∷ v) (n + size a) b))
-
-  -- a walk over the nodes of one or two operands and the line that takes them
-  module _ (f : List Visit → Visit → List Refusal) (s : List Visit) where
-    walk-last : (l : List Visit) (x : Visit) {r : List Refusal} → walk f s l ≡ r → walk f s (l ++ (x ∷ [])) ≡ r ++ f (s ++ l) x
-    walk-last l x e = walk-append f s l (x ∷ []) ∙ ap₂ (λ (p q : List Refusal). p ++ q) e (walk-one f (s ++ l) x)
-
-    walk-two : (k l : List Visit) (x : Visit) {r q : List Refusal} → walk f s k ≡ r → walk f (s ++ k) l ≡ q
-        → walk f s (k ++ (l ++ (x ∷ []))) ≡ r ++ (q ++ f ((s ++ k) ++ l) x)
-    walk-two k l x e g =
-        walk-append f s k (l ++ (x ∷ [])) ∙ ap₂ (λ (p q : List Refusal). p ++ q) e
-        (walk-append f (s ++ k) l (x ∷ []) ∙ ap₂ (λ (p q : List Refusal). p ++ q) g (walk-one f ((s ++ k) ++ l) x))
+  numbers-visits C v n (mu u a) = numbers-append (visits G C v n a) (visit n (mu u a) C v ∷ []) ∙ append-nil _ ∙ numbers-visits C v n a
 
   -- where a pass stands after some nodes
-  seen-length : (s : List Visit) (C : Cols) (v : List ℕ) (n : ℕ) (t : Term) → length (s ++ visits G C v n t) ≡ length s + size t
+  pub seen-length : (s : List Visit) (C : Cols) (v : List ℕ) (n : ℕ) (t : Term) → length (s ++ visits G C v n t) ≡ length s + size t
   seen-length s C v n t = length-append s (visits G C v n t) ∙ ap (λ (k : ℕ). length s + k) (visits-length G C v n t)
 
   seen-numbers : (s : List Visit) (C : Cols) (v : List ℕ) (n : ℕ) (t : Term) → numbers (s ++ visits G C v n t) ≡ numbers s ++ fixNumbers t
@@ -94,6 +95,10 @@ module _ (G : Schema) where
       ∙ ap₂ (λ (taken : List ℕ) (m : ℕ). firstPass a v (numbers s) (length s)
       ++ (firstPass b (u ∷ v) (numbers s ++ fixNumbers a) (length s + size a) ++ scopeFaults (fix u a b) v taken m))
       (both-numbers s C v n a D (u ∷ v) (n + size a) b) (both-length s C v n a D (u ∷ v) (n + size a) b)
+  first-walk (mu u a) s C v n =
+      let m : length (s ++ visits G C v n a) + 1 ≡ length s + (size a + 1) = omega (arith, seen-length s C v n a) in
+      walk-last firstAt s (visits G C v n a) (visit n (mu u a) C v) (first-walk a s C v n)
+      ∙ ap (λ (k : ℕ). firstPass a v (numbers s) (length s) ++ scopeFaults (mu u a) v [] k) m
 
   second-last : (t a : Term) (s : List Visit) (C : Cols) (v : List ℕ) (n : ℕ) → walk (secondAt G) s (visits G C v n a) ≡ secondPass G a C (length s)
       → walk (secondAt G) s (visits G C v n a ++ (visit n t C v ∷ [])) ≡ secondPass G a C (length s) ++ columnFaults G t C (length s + (size a + 1))
@@ -126,3 +131,4 @@ module _ (G : Schema) where
       (second-walk b (s ++ k) D (u ∷ v) (n + size a) ∙ ap (secondPass G b D) (seen-length s C v n a))
       ∙ ap (λ (m : ℕ). secondPass G a C (length s) ++ (secondPass G b D (length s + size a) ++ columnFaults G (fix u a b) C m))
       (both-length s C v n a D (u ∷ v) (n + size a) b)
+  second-walk (mu u a) s C v n = second-last (mu u a) a s C v n (second-walk a s C v n) ∙ append-nil _

@@ -4,7 +4,7 @@ use mathlib.Core.List.{List, [], _∷_, _++_, map}
 use Prim.Native.Nat.{ℕ, _+_, _-_}
 use lib.ListN.{length, replicate}
 use Rattle.laws.specs.Lists.{member, tabulate}
-use Rattle.algebra.specs.Term.{Term, table, var, fact, pair, filter, copy, drop, fix}
+use Rattle.algebra.specs.Term.{Term, table, var, fact, pair, filter, copy, drop, fix, mu}
 use Rattle.algebra.specs.Columns.{Cols, noCols, Schema, cols, free, size}
 use Rattle.relation.specs.declared.Columns.{Columns}
 use Rattle.relation.specs.Rows.{columnsOf}
@@ -12,8 +12,10 @@ use Rattle.database.specs.Stored.{tableLimit}
 use Rattle.database.specs.Refusals.{Reply, refused, accepted, verdict}
 use Rattle.query.specs.declared.Variables.{Variables}
 use Rattle.query.specs.declared.Facts.{Facts}
+use Rattle.query.specs.declared.Query.{Query}
 use Rattle.query.specs.declared.CheckedQuery.{CheckedQuery}
 use Rattle.query.specs.Lines.{nodeLimit}
+use Rattle.query.specs.Check.{splitOf}
 
 -- a node of a term: how many lines stand before its own, the term that it ends, the columns of the variable around it, and the numbers of
 -- the fixes in whose step it lies, the innermost first
@@ -36,6 +38,7 @@ visits G C v n (drop c a) = visits G C v n a ++ (record { start = n; term = drop
 visits G C v n (fix u a b) =
     visits G C v n a
     ++ (visits G (cols G C a) (u ∷ v) (n + size a) b ++ (record { start = n; term = fix u a b; variable = C; around = v } ∷ []))
+visits G C v n (mu u a) = visits G C v n a ++ (record { start = n; term = mu u a; variable = C; around = v } ∷ [])
 
 abbrev pub variablesOf : List ℕ → Variables
 variablesOf l = record { has = tabulate (λ v. member v l) tableLimit }
@@ -56,5 +59,6 @@ abbrev pub visited : Schema → Reply Term → List Visit
 visited G (refused r) = []
 visited G (accepted t) = visits G noCols [] 0 t
 
-abbrev pub checkedValue : Schema → Reply Term → CheckedQuery
-checkedValue G r = record { verdict = verdict r; facts = factsOf G (visited G r) }
+-- of a query q, what the check replies to it
+abbrev pub checkedValue : Schema → Query → Reply Term → CheckedQuery
+checkedValue G q r = record { verdict = verdict r; query = splitOf q r; facts = factsOf G (visited G r) }

@@ -23,6 +23,7 @@ pub enum Node {
     Copy(u32, u32),
     Drop(u32),
     Fix(u32),
+    Mu(u32),
 }
 
 pub struct Line {
@@ -50,9 +51,10 @@ pub struct Facts {
     pub columns: [Columns; NODES],
 }
 
-// What a check replies; a refusal comes with blank facts.
+// What a check replies: the split sheet, in which each `mu` is a fix, with the facts of its nodes; a refusal comes with the query as given and blank facts.
 pub struct CheckedQuery {
     pub verdict: Verdict,
+    pub query: Query,
     pub facts: Facts,
 }
 

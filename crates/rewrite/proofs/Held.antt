@@ -7,7 +7,7 @@ use Prim.Native.Nat.{ℕ, _+_, _-_, _≤_}
 use native.Mathlib.Omega.{arith}
 use lib.ListN.{length, take, drop as dropFirst, getD}
 use lib.Seq.{take-at}
-use Rattle.laws.proofs.EachMember.{Each}
+use Rattle.laws.proofs.EachMember.{Each, each-at}
 use Rattle.algebra.specs.Term.{Term}
 use Rattle.algebra.specs.Columns.{Cols, noCols, Schema, size}
 use Rattle.algebra.specs.WellFormed.{Closed, Path, WellFormed}
@@ -33,10 +33,11 @@ use Rattle.query.specs.Check.{checkOver}
 use Rattle.query.proofs.Reading.{size-lines}
 use Rattle.query.proofs.TermLines.{term-lines}
 use Rattle.query.proofs.Prefix.{node-lines, node-before}
-use Rattle.query.proofs.CheckReply.{Checked}
-use Rattle.query.proofs.CheckTests.{checked-narrow}
+use Rattle.query.proofs.CheckReply.{CheckedSplit}
+use Rattle.query.proofs.SplitSheet.{lines-back}
+use Rattle.query.proofs.CheckedTerms.{term-formed, term-few, well-checked}
 use Rattle.query.proofs.CheckedOver.{check-over-iff}
-use Rattle.query.proofs.NodeLimits.{few-nodes, checked-within, one-term}
+use Rattle.query.proofs.NodeLimits.{checked-within, one-term}
 use Rattle.query.proofs.PartsFine.{parts-fine}
 use Rattle.query.proofs.Replaced.{Replaced, replaced}
 use Rattle.rewrite.specs.Rewrite.{rewrite, withNodes, handedBack, Step, held}
@@ -44,14 +45,6 @@ use Rattle.rewrite.specs.Rewrite as R
 use Rattle.rewrite.proofs.OnForm.{OnForm, form-append, form-split, form-index, form-at, form-written}
 use Rattle.rewrite.proofs.NodeParts.{EndsAt, ends-at, part-narrow, around-narrow}
 use Rattle.rewrite.proofs.RewriteExact.{Accepted, accepted-iff}
-
--- the lines of a query made from lines
-lines-first : (ns : List Node) (rest : List Line) → map (λ (l : Line). l .node) (take (length ns) (map line ns ++ rest)) ≡ ns
-lines-first [] rest = refl
-lines-first (x ∷ ns) rest = ap (λ (l : List Node). x ∷ l) (lines-first ns rest)
-
-pub lines-back : (q : Query) (ns : List Node) → nodes (withNodes q ns) ≡ ns
-lines-back q ns = lines-first ns (dropFirst (length ns) (q .lines))
 
 -- an accepted step was given a checked sheet
 pub checked-first : (w limit : ℕ) (q : Query) (d : Database) (store : List ℕ) (k n : ℕ) (p : Query) → rewrite w limit q d store k n ≡ accepted p
@@ -62,7 +55,7 @@ checked-first w limit q d store k n p e = let (t, h, _) = accepted-then (checkOv
 -- the query p is checked, and its term may be put for t; under which limits it is checked hangs on its count alone
 pub record Kept (G : Schema) (t : Term) (p : Query) : Type 1 where
   pub term : Term
-  pub checked : Checked (p .count) p G term
+  pub checked : CheckedSplit (p .count) p G term
   pub swap : Swap G t term
 
 module _ (w limit : ℕ) (q : Query) (d : Database) (store : List ℕ) (t : Term) (over : checkOver w limit q d store ≡ accepted t) (k n : ℕ)
@@ -76,14 +69,14 @@ module _ (w limit : ℕ) (q : Query) (d : Database) (store : List ℕ) (t : Term
   abbrev m : Match
   m = x .found
 
-  checkedNow : Checked limit q G t
+  checkedNow : CheckedSplit limit q G t
   checkedNow = check-over-iff w limit q d store t .0 over .1
 
-  reads : termOf (nodes q) ≡ accepted t
-  reads = term-lines (nodes q) t .1 (checkedNow .written)
+  reads : termOf (lines t) ≡ accepted t
+  reads = term-lines (lines t) t .1 refl
 
-  ends : EndsAt (nodes q) n a
-  ends = ends-at (nodes q) n a (x .ends)
+  ends : EndsAt (lines t) n a
+  ends = ends-at (lines t) n a (x .ends)
 
   narrow : Narrow G a
   narrow = part-narrow w limit q d store t over n a (x .ends)
@@ -93,7 +86,7 @@ module _ (w limit : ℕ) (q : Query) (d : Database) (store : List ℕ) (t : Term
 
   -- the node is closed: at an open one no step is accepted
   pub node-closed : Closed G a
-  node-closed = elim (parts-fine G (nodes q) t reads n a (ends .stack) (ends .reads) (checkedNow .well-formed .closed)) [
+  node-closed = elim (parts-fine G (lines t) t reads n a (ends .stack) (ends .reads) (checkedNow .well-formed .closed)) [
     | inl c ↦ c
     | inr (v, D, path) ↦ absurd (match-open path k m (x .matches) (closed-iff m .1 (x .closed)))
   ]
@@ -103,38 +96,36 @@ module _ (w limit : ℕ) (q : Query) (d : Database) (store : List ℕ) (t : Term
       let b = around-narrow w limit q d store t over n in
       rule-sound node-closed narrow k _ m (x .matches) (stable-iff G _ b m redex-narrow .1 (x .stable)) (unused-iff G _ b m redex-narrow .1 (x .unused))
 
-  now : Replaced G t (R.replaced (nodes q) n a (written m))
-  now = replaced (nodes q) t n a (written m) (ends .stack) (ends .within) reads (ends .reads) (swap-sound node-closed sound)
+  now : Replaced G t (R.replaced (lines t) n a (written m))
+  now = replaced (lines t) t n a (written m) (ends .stack) (ends .within) reads (ends .reads) (swap-sound node-closed sound)
 
   -- the lines of the rule's sheet are on the form
-  form : OnForm w (R.replaced (nodes q) n a (written m))
+  form : OnForm w (R.replaced (lines t) n a (written m))
   form =
-      let ns = nodes q in
+      let ns = lines t in
       let parts : ns ≡ take (n - size a) ns ++ (lines a ++ dropFirst n ns) =
       rw (node-before ns n a (ends .stack) (ends .reads) (ends .within)) (node-lines ns n a (ends .stack) (ends .reads)) in
-      let all : OnForm w ns = form-index ns (Table 0) (λ i h. checkedNow .on-form i (let f = few-nodes q in omega arith)) in
+      let all : OnForm w ns = form-index ns (Table 0) (λ i h. each-at _ (Table 0) ns (term-formed checkedNow) i h) in
       let (before, rest) = form-split (take (n - size a) ns) (subst (OnForm w) parts all) in
       let (own, after) = form-split (lines a) rest in
       form-append before (form-append (form-written m (subst (λ (b : Term). OnForm w (lines b)) (matched k a (x .matches)) own)) after)
 
   -- so the rule's sheet is checked
-  sheet-checked : Checked limit (withNodes q (R.replaced (nodes q) n a (written m))) G (now .term)
+  sheet-checked : CheckedSplit limit (withNodes q (R.replaced (lines t) n a (written m))) G (now .term)
   sheet-checked =
-      let ns = R.replaced (nodes q) n a (written m) in
+      let ns = R.replaced (lines t) n a (written m) in
       let lines-now : ns ≡ lines (now .term) = term-lines ns (now .term) .0 (now .reads) in
-      let same : length ns ≡ length (nodes q) =
-      ap length lines-now ∙ size-lines (now .term) ∙ now .swap .same-size ∙ sym (size-lines t) ∙ ap length (sym (checkedNow .written)) in
-      let f = few-nodes q in
+      let same : length ns ≡ size t = ap length lines-now ∙ size-lines (now .term) ∙ now .swap .same-size in
       let h = checkedNow .in-range in
-      record {
-        in-range = (omega (arith, ap length lines-now, size-lines (now .term), size-positive (now .term)), omega arith);
+      well-checked (record {
+        in-range = (omega (arith, ap length lines-now, size-lines (now .term), size-positive (now .term)), omega (arith, term-few checkedNow));
         on-form = λ i k. subst (λ (l : List Node). onForm w (getD l i (Table 0)) ≡ true) (sym (lines-back q ns)) (form-at form (Table 0) i k);
         written = lines-back q ns ∙ lines-now;
         well-formed = swap-wellformed (now .swap) (checkedNow .well-formed);
-      }
+      })
 
-  step-checked : Checked limit p G (now .term)
-  step-checked = subst (λ (r : Query). Checked limit r G (now .term)) (sym (x .hands)) sheet-checked
+  step-checked : CheckedSplit limit p G (now .term)
+  step-checked = subst (λ (r : Query). CheckedSplit limit r G (now .term)) (sym (x .hands)) sheet-checked
 
   -- and within the limit
   pub step-within : p .count ≤ limit
@@ -161,7 +152,7 @@ module _ (w : ℕ) (G : Schema) (t : Term) where
           let (u, over) = checked-first w (s .limit) q (s .database) (s .store) (s .kind) (s .node) p e in
           let x = accepted-iff w (s .limit) q (s .database) (s .store) u over (s .kind) (s .node) p .0 e in
           let k : Kept G u p = subst (λ (H : Schema). Kept H u p) same (step-kept w (s .limit) q (s .database) (s .store) u over (s .kind) (s .node) p x) in
-          let i : u ≡ c .term = one-term q u (c .term) (subst (λ (H : Schema). Checked (s .limit) q H u) same (check-over-iff w (s .limit) q (s .database) (s .store) u .0 over .1)) (c .checked) in
+          let i : u ≡ c .term = one-term q u (c .term) (subst (λ (H : Schema). CheckedSplit (s .limit) q H u) same (check-over-iff w (s .limit) q (s .database) (s .store) u .0 over .1)) (c .checked) in
           kept-then c (subst (λ (v : Term). Kept G v p) i k)
 
   pub kept-all : (q : Query) → Kept G t q → (steps : List Step) → Each (λ (s : Step). schema w (s .database) ≡ G) steps → Kept G t (held w q steps)

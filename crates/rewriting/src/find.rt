@@ -116,5 +116,6 @@ pub fn find(query: Query, facts: Facts, kind: u32, i: usize) -> Found
         Node::Copy(_, _) => Found::Nothing,
         Node::Drop(column) => drop_found(query, kind, i, column),
         Node::Fix(_) => Found::Nothing,
+        Node::Mu(_) => Found::Nothing,
     }
 }

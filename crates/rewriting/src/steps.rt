@@ -9,10 +9,23 @@ use rewrite::Rewritten;
 ghost use mathlib.Core.Path.{_≡_};
 ghost use Prim.Native.Nat.{min};
 ghost use Rattle.relation.specs.Rows.{columns};
+ghost use Rattle.database.specs.Refusals.{Reply};
 ghost use Rattle.query.specs.Lines.{nodeLimit};
 ghost use Rattle.rewrite.specs.Rewrite.{rewrite, rewritten};
 
-// The step of a kind at a node: the rule's query, or the query as given beside the refusal. No node count over `limit` is taken.
+// What a step of the split sheet replied, beside the query as given: "Refusals hand back the sheet as given."
+fn handed_back(query: Query, reply: Rewritten) -> Rewritten
+    ensures { λ r. ⌜ ((split : Query) (x : Reply Query) → reply ≡ rewritten split x → r ≡ rewritten query x) ⌝ }
+{
+    let verdict = reply.verdict;
+    match verdict {
+        Verdict::Refused(cause) => refuse(query, cause),
+        Verdict::Accepted => reply,
+    }
+}
+
+// The step of a kind at a node: the rule's query, in which every `mu` is split, or the query as given beside the refusal. No node count over `limit` is
+// taken.
 pub fn rewrite(
     query: Query,
     database: Database,
@@ -24,10 +37,11 @@ pub fn rewrite(
     ensures { λ r. ⌜ r ≡ rewritten query (rewrite columns (min limit nodeLimit) query database (now (store .entry)) kind node) ⌝ }
 {
     let checked = check(query, database, store, limit);
+    let split = checked.query;
     let facts = checked.facts;
     let verdict = checked.verdict;
     match verdict {
         Verdict::Refused(cause) => refuse(query, cause),
-        Verdict::Accepted => rewrite_checked(query, facts, kind, node),
+        Verdict::Accepted => handed_back(query, rewrite_checked(split, facts, kind, node)),
     }
 }

@@ -5,3 +5,4 @@ pub mod Registers
 pub mod Accepted
 pub mod Meaning
 pub mod Outset
+pub mod TypedSpace

@@ -105,8 +105,10 @@ fn joined(random: &mut Random, database: &Database) -> Query {
     let mut fixes = 0;
     for _ in 0..2 + random.below(9) {
         let mut part = random::query(random, database.schema(), NODES).lines().to_vec();
-        let own: Vec<u8> =
-            part.iter().filter_map(|line| if let Node::Fix(v) = line { Some(*v) } else { None }).collect();
+        let own: Vec<u8> = part
+            .iter()
+            .filter_map(|line| if let Node::Fix(v) | Node::Mu(v) = line { Some(*v) } else { None })
+            .collect();
         let renamed = |v: u8| match own.iter().position(|own| *own == v) {
             Some(rank) => (fixes + rank) as u8 % VARIABLES,
             None => v,
@@ -114,6 +116,7 @@ fn joined(random: &mut Random, database: &Database) -> Query {
         for line in &mut part {
             *line = match *line {
                 Node::Fix(v) => Node::Fix(renamed(v)),
+                Node::Mu(v) => Node::Mu(renamed(v)),
                 Node::Var(v) => Node::Var(renamed(v)),
                 other => other,
             };
@@ -279,7 +282,7 @@ fn harm(random: &mut Random, slice: &mut [u32], used: usize) {
 fn damaged(random: &mut Random, query: &Query, database: &Database) -> Slices {
     let ways = 1 + random.below(15);
     let way = |bit: usize| ways >> bit & 1 == 1;
-    let query = if way(0) { damage::query(random, query) } else { query.clone() };
+    let query = if way(0) { harmed(random, query) } else { query.clone() };
     let database = if way(1) { damage::database(random, database).0 } else { database.clone() };
     let mut slices = over(random, &query, &database);
     if way(2) {
@@ -295,11 +298,17 @@ fn damaged(random: &mut Random, query: &Query, database: &Database) -> Slices {
     slices
 }
 
+/// A query with edits, or with a `mu` that gets 20.
+fn harmed(random: &mut Random, query: &Query) -> Query {
+    let spoilt = if random.once_in(3) { damage::spoilt(random, query) } else { None };
+    spoilt.map_or_else(|| damage::query(random, query), |spoilt| spoilt.query)
+}
+
 fn checks(random: &mut Random, at: At, query: &Query, database: &Database) -> Vec<Input> {
     let nodes = query.count as usize;
     let lines: Vec<Node> = (0..1 + random.below(12)).map(|_| random::node(random)).collect();
     let any = Query::new(&lines, NODES);
-    let once = damage::query(random, query);
+    let once = harmed(random, query);
     let twice = damage::query(random, &once);
     let mut found: Vec<Slices> = [query, &any, &once, &twice].map(|query| over(random, query, database)).into();
     found.extend((0..4).map(|_| damaged(random, query, database)));
@@ -374,7 +383,7 @@ fn runs(random: &mut Random, at: At, query: &Query, database: &Database) -> Vec<
 /// The query with steps, or with edits that often leave it checked.
 fn again(random: &mut Random, query: &Query, database: &Database) -> Query {
     if random.once_in(3) {
-        return damage::query(random, query);
+        return harmed(random, query);
     }
     let steps = random::steps(random, query);
     steps.into_iter().fold(query.clone(), |held, (kind, node)| rewrite(database, &held, kind, node).unwrap_or(held))

@@ -23,7 +23,7 @@ fn calls(tally: &mut Tally, inputs: Vec<Input>) {
         let (mut due, mut left) = (before.clone(), before.clone());
         let expected = call.by_reference(&mut due);
         let replied = call.by_engine(&mut left);
-        tally.meet(call, expected, &due);
+        tally.meet(call, expected, &before, &due);
         tally.case(|| format!("{call:?} of {before:?}"), &(expected, due), &(replied, left));
     }
 }

@@ -6,6 +6,8 @@ use reference::plan::{plan, Line, Operation};
 use reference::value::{Database, Node, Query, NODES, TABLES};
 
 pub const LINE: usize = 3;
+/// The code of a `mu`. No query has a line of the code before it, which is that of a plan's start.
+const MU: u32 = 15;
 pub const QUERY_ROOM: usize = 1 + LINE * NODES;
 pub const TABLE: usize = 2;
 pub const DATABASE_ROOM: usize = 1 + TABLE * TABLES as usize;
@@ -42,6 +44,7 @@ fn line_of(node: &Node) -> [u32; LINE] {
         Node::Copy(a, b) => two(11, a, u32::from(b)),
         Node::Drop(a) => two(12, a, 0),
         Node::Fix(v) => two(13, v, 0),
+        Node::Mu(v) => two(MU, v, 0),
     }
 }
 
@@ -66,6 +69,7 @@ fn node_of(line: &[u32]) -> Node {
         11 => Node::Copy(a, byte(b)),
         12 => Node::Drop(a),
         13 => Node::Fix(a),
+        MU => Node::Mu(a),
         // Another code is a line off the form.
         _ => Node::Table(u8::MAX),
     }
@@ -80,6 +84,12 @@ pub fn flat_query(lines: &[Node]) -> Vec<u32> {
 /// The query in a slice with room for it; `limit` is the highest node count taken.
 pub fn query_of(flat: &[u32], limit: usize) -> Query {
     Query { nodes: flat[1..QUERY_ROOM].chunks(LINE).take(limit).map(node_of).collect(), count: flat[0] }
+}
+
+/// Whether a query in a slice with room for it has a `mu`.
+pub fn has_mu(flat: &[u32]) -> bool {
+    let lines = || flat[1..].chunks_exact(LINE);
+    flat.first().is_some_and(|count| lines().take(*count as usize).any(|line| line[0] == MU))
 }
 
 pub fn bits_of(columns: &Columns) -> u32 {

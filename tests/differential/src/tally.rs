@@ -1,7 +1,7 @@
 //! The cases passed and failed, and what the calls met.
 
 use crate::call::Call;
-use crate::slices::Slices;
+use crate::slices::{has_mu, Slices};
 use reference::panel;
 use reference::value::Refusal;
 use std::fmt::Debug;
@@ -12,6 +12,8 @@ const SHOWN: u64 = 20;
 /// Calls of the header that are made at the desk; those after them are the panel's.
 const DESK_CALLS: usize = 6;
 const CALLS: usize = 11;
+/// The one call that takes no query.
+const READS_DATABASE: usize = 1;
 
 #[derive(Default)]
 pub struct Tally {
@@ -22,8 +24,13 @@ pub struct Tally {
     accepted: [u64; CALLS],
     /// At desk and panel: accepted rewrites by kind, refusals by number, and those of runs.
     kinds: [[u64; 7]; 2],
-    numbers: [[u64; 20]; 2],
-    runs: [[u64; 20]; 2],
+    numbers: [[u64; 21]; 2],
+    runs: [[u64; 21]; 2],
+    /// Accepted calls on queries with a `mu` in the header's order, and at desk and panel the accepted rewrites of such by kind and
+    /// their refusals by number.
+    mus: [u64; CALLS],
+    mu_kinds: [[u64; 7]; 2],
+    mu_numbers: [[u64; 21]; 2],
     /// The most nodes, rows and lines run of a finished run at desk and panel.
     most: [[u32; 3]; 2],
     /// Answers with a 0 in the column that filters are put on.
@@ -47,7 +54,8 @@ impl Tally {
         }
     }
 
-    pub fn meet(&mut self, call: Call, reply: Result<(), Refusal>, slices: &Slices) {
+    /// A call with the slices that it was given and those that it left.
+    pub fn meet(&mut self, call: Call, reply: Result<(), Refusal>, given: &Slices, slices: &Slices) {
         let sort = match call {
             Call::ReadQuery { .. } => 0,
             Call::ReadDatabase => 1,
@@ -66,6 +74,10 @@ impl Tally {
             Err(refusal) => self.numbers[at][refusal.number as usize] += 1,
             Ok(()) => self.accepted[sort] += 1,
         }
+        let reads = matches!(call, Call::ReadQuery { .. } | Call::PanelReadQuery);
+        if has_mu(if reads { &slices.query } else { &given.query }) {
+            self.meet_mu(call, sort, at, reply);
+        }
         match (reply, call) {
             (Ok(()), Call::Rewrite { kind, .. } | Call::PanelRewrite { kind, .. }) => {
                 self.kinds[at][kind as usize] += 1;
@@ -81,6 +93,17 @@ impl Tally {
         }
     }
 
+    fn meet_mu(&mut self, call: Call, sort: usize, at: usize, reply: Result<(), Refusal>) {
+        match (reply, call) {
+            (Err(refusal), _) => self.mu_numbers[at][refusal.number as usize] += 1,
+            (Ok(()), Call::Rewrite { kind, .. } | Call::PanelRewrite { kind, .. }) => {
+                self.mus[sort] += 1;
+                self.mu_kinds[at][kind as usize] += 1;
+            }
+            _ => self.mus[sort] += 1,
+        }
+    }
+
     pub fn print_met(&self) {
         println!("accepted by call {:?}", self.accepted);
         for (at, name) in ["desk", "panel"].into_iter().enumerate() {
@@ -89,23 +112,34 @@ impl Tally {
             let [nodes, rows, ran] = self.most[at];
             println!("{name}: finished runs of up to {nodes} nodes, {rows} rows and {ran} lines run");
         }
+        println!("with a mu: accepted by call {:?}", self.mus);
+        for (at, name) in ["desk", "panel"].into_iter().enumerate() {
+            let (kinds, numbers) = (&self.mu_kinds[at][1..], &self.mu_numbers[at][1..]);
+            println!("{name}, with a mu: rewrites by kind {kinds:?}, refused by number {numbers:?}");
+        }
         println!("filters over a column that holds 0: {}", self.unknown);
         println!("finished runs over a database read from zero bytes: {}", self.empty);
     }
 
     /// A case of its own: every call was accepted and at desk and panel every kind; every number was given, 16 never at the
     /// panel; runs were refused over each limit, and at the panel some finished with the most nodes and rows; filters met 0, and
-    /// runs finished over a book of zero bytes.
+    /// runs finished over a book of zero bytes. Queries with a `mu` met every call but that of a database and every kind, 20 at
+    /// both, and 3 to 10 at one or the other.
     pub fn all_met(&mut self) {
         let accepted = self.accepted.iter().chain(self.kinds.iter().flat_map(|kinds| &kinds[1..]));
         let given = self.numbers[0][1..].iter();
         let refused = self.runs.iter().flat_map(|runs| [2, 17, 18, 19].map(|number| &runs[number]));
-        let met = accepted.chain(given).chain(refused).all(|times| *times > 0);
+        let mus = self.mus.iter().enumerate().filter(|(sort, _)| *sort != READS_DATABASE).map(|(_, times)| times);
+        let mu_kinds = self.mu_kinds.iter().flat_map(|kinds| &kinds[1..]);
+        let [at_desk, at_panel] = &self.mu_numbers;
+        let mu_numbers =
+            (3..=10).all(|number| at_desk[number] + at_panel[number] > 0) && at_desk[20] > 0 && at_panel[20] > 0;
+        let met = accepted.chain(given).chain(refused).chain(mus).chain(mu_kinds).all(|times| *times > 0);
         let most = self.most[1][..2] == [panel::NODES as u32, panel::ROW_LIMIT];
-        if met && self.numbers[1][16] == 0 && most && self.unknown > 0 && self.empty > 0 {
+        if met && mu_numbers && self.numbers[1][16] == 0 && most && self.unknown > 0 && self.empty > 0 {
             self.passed += 1;
         } else {
-            println!("FAILED every call and kind is accepted, every number given, every limit, 0 under filters and an empty book met");
+            println!("FAILED every call and kind is accepted, every number given, every limit, 0 under filters, an empty book and mu met");
             self.failed += 1;
         }
     }

@@ -31,6 +31,7 @@ fn line_of(node: &Node) -> Line {
         Node::Copy(a, b) => Line::Copy(a.into(), b.into()),
         Node::Drop(a) => Line::Drop(a.into()),
         Node::Fix(v) => Line::Fix(v.into()),
+        Node::Mu(v) => Line::Mu(v.into()),
     }
 }
 
@@ -138,8 +139,10 @@ pub fn cases(random: &mut Random, tally: &mut Tally) {
         let query = random::query(random, database.schema(), NODES);
         (database, query)
     };
-    if random.once_in(3) {
-        query = damage::query(random, &query);
+    match random.below(6) {
+        0 | 1 => query = damage::query(random, &query),
+        2 => query = damage::spoilt(random, &query).map_or(query, |spoilt| spoilt.query),
+        _ => {}
     }
     texts(random, tally, print_query(&query), print_database(&database));
     if random.once_in(6) {

@@ -1,10 +1,12 @@
-//! Checking a query over the columns of a database: 2 and 1 of the value, 3, then the two passes.
+//! Checking a query over the columns of a database: 2 and 1 of the value, 3 and 20 as typed, then the two passes over the
+//! split query.
 
 use crate::algebra::{Columns, Pairing};
+use crate::split::split;
 use crate::term::Term;
 use crate::value::{refuse, Node, Query, Refusal};
 
-/// A checked query: its tree and the columns of each node, node 1 first.
+/// A checked query: the tree of its split and the columns of each node, node 1 first.
 #[derive(Clone, Debug, PartialEq, Eq)]
 pub struct Checked {
     pub root: Term,
@@ -12,6 +14,11 @@ pub struct Checked {
 }
 
 impl Checked {
+    /// The lines of the split query.
+    pub fn lines(&self) -> Vec<Node> {
+        self.root.nodes().iter().map(|term| term.line).collect()
+    }
+
     pub fn columns(&self, term: &Term) -> &Columns {
         &self.columns[term.node - 1]
     }
@@ -19,7 +26,8 @@ impl Checked {
 
 pub fn check(query: &Query, schema: &[Columns]) -> Result<Checked, Refusal> {
     query.form()?;
-    let root = Term::of(query.lines())?;
+    let typed = Term::of(query.lines())?;
+    let root = Term::of(&split(&typed)?)?;
     first_pass(&root)?;
     let columns = second_pass(&root, schema)?;
     Ok(Checked { root, columns })
@@ -79,6 +87,7 @@ fn second_pass(root: &Term, schema: &[Columns]) -> Result<Vec<Columns>, Refusal>
             Node::Filter(_) if named() => Ok(of(0).clone()),
             Node::Copy(a, b) if of(0).contains(&a) && !of(0).contains(&b) => Ok(of(0) | &Columns::from([b])),
             Node::Drop(a) if named() => Ok(of(0) - &Columns::from([a])),
+            Node::Mu(_) => unreachable!("the query is split"),
             _ => Err(9),
         };
         match columns {

@@ -1,5 +1,6 @@
 //! Worked examples: the starred cases, and what the cases of `answer` do not show (exact queries and plans, lent slices).
 
+mod in_one_piece;
 mod on_the_panel;
 
 use crate::algebra::{Columns, Pairing, Relation};
@@ -17,7 +18,7 @@ pub fn examples() -> Vec<Outcome> {
         let result = if holds { Ok(String::new()) } else { Err("does not hold".to_string()) };
         (format!("example: {name}"), result)
     };
-    [starred(), exact_queries(), exact_plans(), lent(), on_the_panel::examples()]
+    [starred(), exact_queries(), exact_plans(), lent(), on_the_panel::examples(), in_one_piece::examples()]
         .concat()
         .into_iter()
         .map(outcome)

@@ -19,6 +19,7 @@ pub mod reading;
 pub mod rewrite;
 pub mod run;
 pub mod selfcheck;
+pub mod split;
 pub mod steps;
 pub mod term;
 pub mod text;

@@ -2,12 +2,13 @@
 
 mod desk_and_panel;
 mod first_day;
+mod one_piece;
 
 use crate::algebra::{Condition, Relation};
 use crate::answer::{answer, FILE_BYTES};
 use crate::check::{check, Checked};
 use crate::damage;
-use crate::meaning::meaning;
+use crate::meaning::meaning_of;
 use crate::plan::{execute, plan, Line, Machine, Operation};
 use crate::random::{self, Random};
 use crate::rewrite::{apply, rewrite};
@@ -17,14 +18,16 @@ use crate::text::{print_answer, print_database, print_query, print_steps, read_d
 use crate::value::{slots_of, Database, Node, Query, Refusal, COLUMNS};
 
 /// What random inputs have met: accepted rewrites by kind, refusals by number, filters over rows with a 0 in their column and
-/// those of them that were pushed into a recursion, and what books of zero bytes, desk and panel have.
+/// those of them that were pushed into a recursion, and what books of zero bytes, desk and panel, and recursions typed in one
+/// piece have.
 #[derive(Default)]
 pub struct Coverage {
     pub kinds: [u32; 7],
-    pub numbers: [u32; 20],
+    pub numbers: [u32; 21],
     pub unknown: [u32; 2],
     pub first_day: first_day::Met,
     pub panel: desk_and_panel::Met,
+    pub one_piece: one_piece::Met,
 }
 
 impl Coverage {
@@ -32,8 +35,8 @@ impl Coverage {
         self.numbers[refusal.number as usize] += 1;
     }
 
-    /// Each kind was accepted and each number given; filters met 0, also in a recursion; what books of zero bytes met, and the
-    /// panel's share of it.
+    /// Each kind was accepted and each number given; filters met 0, also in a recursion; what books of zero bytes met, the
+    /// panel's share of it, and that of recursions typed in one piece.
     pub fn outcomes(&self) -> Vec<Outcome> {
         let seen = format!("accepted by kind {:?}, refused by number {:?}", &self.kinds[1..], &self.numbers[1..]);
         let full = self.kinds[1..].iter().chain(&self.numbers[1..]).all(|times| *times > 0);
@@ -42,7 +45,7 @@ impl Coverage {
         let seen = format!("{} filters over a 0, {} of them pushed in", self.unknown[0], self.unknown[1]);
         let met = self.unknown.iter().all(|times| *times > 0);
         let unknown = ("filters meet unknown values".to_string(), if met { Ok(seen) } else { Err(seen) });
-        vec![all, unknown, self.first_day.outcome(), self.panel.outcome()]
+        [vec![all, unknown, self.first_day.outcome(), self.panel.outcome()], self.one_piece.outcomes()].concat()
     }
 }
 
@@ -50,7 +53,7 @@ impl Coverage {
 type Verdict = Result<bool, String>;
 type Property = fn(&mut Random, &mut Coverage) -> Verdict;
 
-const PROPERTIES: [(&str, Property); 22] = [
+const PROPERTIES: [(&str, Property); 28] = [
     ("a printed query is read back", queries_are_read_back),
     ("a printed database is read back", databases_are_read_back),
     ("a query's refusal names its first bad line", first_bad_line_of_a_query),
@@ -73,6 +76,12 @@ const PROPERTIES: [(&str, Property); 22] = [
     ("desk and panel give one answer", desk_and_panel::runs),
     ("the panel's row limit is exact", desk_and_panel::row_limits),
     ("the panel's workspace is enough", desk_and_panel::workspaces),
+    ("a split has a fix for each mu and one node fewer", one_piece::splits),
+    ("a mu means the least fixpoint of its body, and so do its split and the run", one_piece::meanings),
+    ("20 names the lowest mu that isn't split, before 4", one_piece::unsplit),
+    ("4 to 10 of a damaged mu query are those of its split", one_piece::damaged),
+    ("a step on a mu query is one on its split, entries past the count staying", one_piece::rewrites),
+    ("node limits count lines as typed", one_piece::limits),
 ];
 
 /// One test a property, each on the seeds from `seed` on.
@@ -214,13 +223,14 @@ fn values_off_the_form(random: &mut Random, coverage: &mut Coverage) -> Verdict 
     let (database, query, _) = input(random, 40)?;
     let mut bad = query.clone();
     let node = random.below(query.count as usize);
-    bad.nodes[node] = match random.below(7) {
+    bad.nodes[node] = match random.below(8) {
         0 => Node::Table(16),
         1 => Node::Var(16 + random.below(200) as u8),
         2 => Node::Fix(255),
         3 => Node::Fact(8, 0),
         4 => Node::Filter(Condition::Same(0, 8)),
         5 => Node::Copy(0, 9),
+        6 => Node::Mu(16 + random.below(200) as u8),
         _ => Node::Drop(8),
     };
     // A later line off the form changes nothing.
@@ -256,13 +266,13 @@ fn damaged_queries(random: &mut Random, coverage: &mut Coverage) -> Verdict {
         Ok(checked) => checked,
         Err(refusal) => {
             coverage.refused(refusal);
-            let known = (3..=10).contains(&refusal.number) && (1..=query.count).contains(&refusal.place);
+            let known = matches!(refusal.number, 3..=10 | 20) && (1..=query.count).contains(&refusal.place);
             ensure(known, &format!("{refusal:?}"), &query, &database)?;
             return Ok(true);
         }
     };
     let tables = database.relations();
-    let Some(rows) = meaning(&checked.root, &tables, MOST) else {
+    let Some(rows) = meaning_of(&query, &tables, MOST) else {
         return Ok(false);
     };
     let columns = checked.columns(&checked.root);
@@ -276,12 +286,13 @@ fn damaged_queries(random: &mut Random, coverage: &mut Coverage) -> Verdict {
 fn plans(random: &mut Random, _: &mut Coverage) -> Verdict {
     let (database, query, checked) = input(random, 64)?;
     let plan = plan(&checked.root);
-    let nodes = query.count as usize;
+    let lines = checked.lines();
+    let nodes = lines.len();
     let fixes = checked.root.nodes().iter().filter(|term| term.is_fix()).count();
     let is_start = |line: &Line| matches!(line.operation, Operation::Start { .. });
     let mut own: Vec<usize> = plan.lines.iter().filter(|line| !is_start(line)).map(|line| line.destination).collect();
     own.sort();
-    let due: Vec<usize> = (0..nodes).filter(|node| !matches!(query.nodes[*node], Node::Var(_))).collect();
+    let due: Vec<usize> = (0..nodes).filter(|node| !matches!(lines[*node], Node::Var(_))).collect();
     ensure(own == due, "not one line a node", &query, &database)?;
     ensure(plan.lines.len() == due.len() + fixes, "not one start a fix", &query, &database)?;
     ensure(plan.registers == nodes + fixes, "not one register a node and a fix", &query, &database)?;
@@ -330,7 +341,7 @@ fn runs_give_the_meaning(random: &mut Random, coverage: &mut Coverage) -> Verdic
             return Ok(false);
         }
     };
-    let Some(rows) = meaning(&checked.root, &database.relations(), MOST) else {
+    let Some(rows) = meaning_of(&query, &database.relations(), MOST) else {
         return Ok(false);
     };
     let same = finished.rows as usize == rows.len()
@@ -427,7 +438,7 @@ fn filters(random: &mut Random, coverage: &mut Coverage) -> Verdict {
     let (database, query, checked) = input(random, 40)?;
     let tables = database.relations();
     let column = random.pick(checked.columns(&checked.root).iter().copied());
-    let (Some(rows), Some(column)) = (meaning(&checked.root, &tables, MOST), column) else {
+    let (Some(rows), Some(column)) = (meaning_of(&query, &tables, MOST), column) else {
         return Ok(false);
     };
     let values = rows.iter().map(|row| row[&column]);
@@ -443,14 +454,13 @@ fn filters(random: &mut Random, coverage: &mut Coverage) -> Verdict {
         let filtered = Query::new(&lines, lines.len());
         let due: Relation = rows.iter().filter(|row| passes(row[&column], bound)).cloned().collect();
         let mut sheets = vec![filtered.clone()];
-        sheets.extend(rewrite(&database, &filtered, 1, filtered.count));
+        let last = checked.root.node as u32 + 1;
+        sheets.extend(rewrite(&database, &filtered, 1, last));
         coverage.unknown[0] += u32::from(unknown);
         coverage.unknown[1] += u32::from(unknown && sheets.len() == 2);
         for sheet in sheets {
-            let Ok(checked) = check(&sheet, database.schema()) else {
-                return Err(format!("not checked{}", told(&sheet, &database)));
-            };
-            let kept = meaning(&checked.root, &tables, MOST);
+            ensure(check(&sheet, database.schema()).is_ok(), "not checked", &sheet, &database)?;
+            let kept = meaning_of(&sheet, &tables, MOST);
             ensure(kept.as_ref() == Some(&due), "other rows", &sheet, &database)?;
         }
     }
@@ -461,7 +471,8 @@ fn filters(random: &mut Random, coverage: &mut Coverage) -> Verdict {
 fn rewrites(random: &mut Random, coverage: &mut Coverage) -> Verdict {
     let (database, query, checked) = input(random, 40)?;
     let tables = database.relations();
-    let before = meaning(&checked.root, &tables, MOST);
+    let before = meaning_of(&query, &tables, MOST);
+    let split = checked.root.node;
     for node in 0..=query.count + 1 {
         for kind in 0..=7 {
             let rewritten = match apply(&checked, &query, kind, node) {
@@ -480,10 +491,9 @@ fn rewrites(random: &mut Random, coverage: &mut Coverage) -> Verdict {
             };
             let columns = after.columns(&after.root) == checked.columns(&checked.root);
             ensure(columns, &format!("{step}: other columns"), &query, &database)?;
-            let past = query.count as usize;
-            let kept = rewritten.count == query.count && rewritten.nodes[past..] == query.nodes[past..];
+            let kept = rewritten.count as usize == split && rewritten.nodes[split..] == query.nodes[split..];
             ensure(kept, &format!("{step}: another count or other entries past it"), &query, &database)?;
-            if let (Some(before), Some(after)) = (&before, meaning(&after.root, &tables, MOST)) {
+            if let (Some(before), Some(after)) = (&before, meaning_of(&rewritten, &tables, MOST)) {
                 ensure(*before == after, &format!("{step}: another meaning"), &query, &database)?;
             }
         }
@@ -493,7 +503,7 @@ fn rewrites(random: &mut Random, coverage: &mut Coverage) -> Verdict {
 
 /// Each step and the run get another database with the same columns.
 fn lists_of_rewrites(random: &mut Random, coverage: &mut Coverage) -> Verdict {
-    let (database, first, checked) = input(random, 40)?;
+    let (database, first, _) = input(random, 40)?;
     let mut held = first.clone();
     let mut accepted = 0;
     for (kind, node) in random::steps(random, &first).into_iter().chain(random::steps(random, &first)) {
@@ -513,7 +523,7 @@ fn lists_of_rewrites(random: &mut Random, coverage: &mut Coverage) -> Verdict {
     let Ok(machine) = execute(&plan(&after.root), &last.relations(), 40, u32::MAX) else {
         return Ok(false);
     };
-    let Some(rows) = meaning(&checked.root, &last.relations(), MOST) else {
+    let Some(rows) = meaning_of(&first, &last.relations(), MOST) else {
         return Ok(false);
     };
     let same = machine.registers[after.root.node - 1] == rows;
@@ -550,7 +560,7 @@ fn answers(random: &mut Random, coverage: &mut Coverage) -> Verdict {
     if damaged {
         return Ok(true);
     }
-    let Some(rows) = meaning(&checked.root, &database.relations(), MOST) else {
+    let Some(rows) = meaning_of(&query, &database.relations(), MOST) else {
         return Ok(false);
     };
     if prints(&printed, &checked, &rows) {

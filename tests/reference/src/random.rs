@@ -1,6 +1,8 @@
 //! Random inputs from fixed seeds: databases, queries that are checked by construction, steps.
 
 use crate::algebra::{Columns, Condition, Pairing, Relation, Row};
+use crate::split::split;
+use crate::term::Term;
 use crate::text::nodes;
 use crate::value::{Database, Node, Query, COLUMNS, NODES, TABLES, VARIABLES};
 use std::ops::Range;
@@ -128,7 +130,11 @@ pub fn query_of_fixes(random: &mut Random, schema: &[Columns], nodes: usize) -> 
         let next = match variable {
             Some(variable) => {
                 let step = Piece::leaf(Node::Var(variable), piece.columns.clone());
-                piece.clone().fix(step, variable)
+                match maker.random.below(24) {
+                    0 => piece.clone().pair(Pairing::Union, step).mu(variable),
+                    1 => step.pair(Pairing::Union, piece.clone()).mu(variable),
+                    _ => piece.clone().fix(step, variable),
+                }
             }
             None => maker.around(piece.clone()),
         };
@@ -139,14 +145,17 @@ pub fn query_of_fixes(random: &mut Random, schema: &[Columns], nodes: usize) -> 
     }
 }
 
+/// The most branches of a `mu` that are made one by one; each may be a union of others.
+const BRANCHES: usize = 6;
+
 /// A database and a checked query whose largest register holds exactly so many rows, nine or more: those of a table, a
 /// union, a join or a fix. The lines above it add none.
 pub fn query_of_rows(random: &mut Random, rows: u32) -> (Database, Query) {
     let (tables, lines, columns) = match random.below(4) {
-        0 => (vec![single(0..rows)], "table=0", Columns::from([0])),
+        0 => (vec![single(0..rows)], "table=0".to_string(), Columns::from([0])),
         1 => {
             let split = random.below(rows as usize + 1) as u32;
-            (vec![single(0..split), single(split..rows)], "table=0 table=1 pair=union", Columns::from([0]))
+            (vec![single(0..split), single(split..rows)], "table=0 table=1 pair=union".to_string(), Columns::from([0]))
         }
         2 => {
             // Of the left rows, `many` fit `wide` right rows each, the others one each.
@@ -155,18 +164,23 @@ pub fn query_of_rows(random: &mut Random, rows: u32) -> (Database, Query) {
             let left = (0..many).map(|value| [value, 0]).chain((many * wide..rows).map(|value| [value, 1]));
             let right = (0..wide).map(|value| [0, value]).chain([[1, 0]]);
             let tables = vec![double([0, 1], left), double([1, 2], right)];
-            (tables, "table=0 table=1 pair=join", Columns::from([0, 1, 2]))
+            (tables, "table=0 table=1 pair=join".to_string(), Columns::from([0, 1, 2]))
         }
         _ => {
             // From 0 on along a chain of so many nodes.
             let chain = double([0, 1], (1..rows).map(|value| [value - 1, value]));
-            let lines = "fact=1,0 var=0 copy=1,2 drop=1 table=0 copy=0,2 drop=0 pair=join drop=2 fix=0";
+            let (first, next) = ("fact=1,0", "var=0 copy=1,2 drop=1 table=0 copy=0,2 drop=0 pair=join drop=2");
+            let lines = match random.below(3) {
+                0 => format!("{first} {next} pair=union mu=0"),
+                1 => format!("{next} {first} pair=union mu=0"),
+                _ => format!("{first} {next} fix=0"),
+            };
             (vec![chain], lines, Columns::from([1]))
         }
     };
     let database = Database::stored(&tables, 0);
     let mut maker = Maker::new(random, database.schema());
-    let mut piece = Piece { lines: nodes(lines), columns };
+    let mut piece = Piece { lines: nodes(&lines), columns };
     while maker.random.once_in(2) {
         piece = maker.above(piece);
     }
@@ -223,6 +237,11 @@ impl Piece {
     fn fix(mut self, step: Piece, variable: u8) -> Piece {
         self.lines.extend(step.lines);
         self.lines.push(Node::Fix(variable));
+        self
+    }
+
+    fn mu(mut self, variable: u8) -> Piece {
+        self.lines.push(Node::Mu(variable));
         self
     }
 }
@@ -372,7 +391,52 @@ impl<'a> Maker<'a> {
             step = self.walk(step, variable, &seed.columns);
         }
         let step = self.adapt(step, &seed.columns);
-        seed.fix(step, variable)
+        self.recursion(seed, step, variable)
+    }
+
+    /// A fix, or as often the same and more typed in one piece.
+    fn recursion(&mut self, seed: Piece, step: Piece, variable: u8) -> Piece {
+        if self.random.once_in(2) {
+            return seed.fix(step, variable);
+        }
+        let columns = seed.columns.clone();
+        let mut branches = vec![seed, step];
+        while branches.len() < BRANCHES && self.random.once_in(2) {
+            let branch = self.branch(variable, &columns);
+            branches.push(self.adapt(branch, &columns));
+        }
+        for at in 1..branches.len() {
+            branches.swap(at, self.random.below(at + 1));
+        }
+        self.united(branches).mu(variable)
+    }
+
+    /// A closed branch or an open one.
+    fn branch(&mut self, variable: u8, columns: &Columns) -> Piece {
+        if self.random.once_in(2) {
+            return self.other(columns);
+        }
+        let branch = Piece::leaf(Node::Var(variable), columns.clone());
+        match self.random.below(3) {
+            0 => branch,
+            1 => self.walk(branch, variable, columns),
+            _ => {
+                // A union under another line is no cut.
+                let more = Piece::leaf(Node::Var(variable), columns.clone());
+                let union = branch.pair(Pairing::Union, more);
+                self.above(union)
+            }
+        }
+    }
+
+    /// Pieces united in their order, in any grouping.
+    fn united(&mut self, mut pieces: Vec<Piece>) -> Piece {
+        while pieces.len() > 1 {
+            let at = self.random.below(pieces.len() - 1);
+            let right = pieces.remove(at + 1);
+            pieces[at] = pieces[at].clone().pair(Pairing::Union, right);
+        }
+        pieces.remove(0)
     }
 
     /// A recursion like Reach over a table of two columns or more: a hop from one column to another, with a filter, a
@@ -401,7 +465,7 @@ impl<'a> Maker<'a> {
             step = self.walk(step, variable, &seed.columns);
             step = self.adapt(step, &seed.columns);
         }
-        Some(seed.fix(step, variable))
+        Some(self.recursion(seed, step, variable))
     }
 
     /// One more operator on a path whose variable has the columns `whole`.
@@ -486,7 +550,7 @@ impl<'a> Maker<'a> {
                     _ => outer.pair(Pairing::Join, fix),
                 };
                 let step = self.adapt(step, &columns);
-                seed.fix(step, variable)
+                self.recursion(seed, step, variable)
             }
         }
     }
@@ -497,7 +561,7 @@ pub fn node(random: &mut Random) -> Node {
     let (a, b) = (random.below(COLUMNS) as u8, random.below(COLUMNS) as u8);
     let variable = random.below(usize::from(VARIABLES)) as u8;
     let value = if random.once_in(2) { random.next() } else { random.cell(5) };
-    match random.below(13) {
+    match random.below(14) {
         0 => Node::Table(random.below(TABLES as usize) as u8),
         1 => Node::Var(variable),
         2 => Node::Fix(variable),
@@ -510,14 +574,15 @@ pub fn node(random: &mut Random) -> Node {
         9 => Node::Filter(Condition::Max(a, value)),
         10 => Node::Filter(Condition::Same(a, b)),
         11 => Node::Copy(a, b),
+        12 => Node::Mu(variable),
         _ => Node::Drop(a),
     }
 }
 
-/// A list of steps, most of them at lines that a kind looks at.
+/// A list of steps, most of them at lines of the split query that a kind looks at, some at such lines as typed.
 pub fn steps(random: &mut Random, query: &Query) -> Vec<(u32, u32)> {
-    let likely: Vec<(u32, u32)> = query
-        .lines()
+    let lines = if random.once_in(6) { query.lines().to_vec() } else { split_lines(query) };
+    let likely: Vec<(u32, u32)> = lines
         .iter()
         .zip(1..)
         .flat_map(|(line, node)| {
@@ -538,4 +603,11 @@ pub fn steps(random: &mut Random, query: &Query) -> Vec<(u32, u32)> {
             _ => (random.below(8) as u32, random.below(query.count as usize + 2) as u32),
         })
         .collect()
+}
+
+/// The lines of the split query; as typed if it isn't split.
+fn split_lines(query: &Query) -> Vec<Node> {
+    let on_the_form = query.form().is_ok();
+    let tree = if on_the_form { Term::of(query.lines()).ok() } else { None };
+    tree.and_then(|typed| split(&typed).ok()).unwrap_or_else(|| query.lines().to_vec())
 }

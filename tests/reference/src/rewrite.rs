@@ -5,14 +5,15 @@ use crate::check::{check, Checked};
 use crate::term::Term;
 use crate::value::{refuse, Database, Node, Query, Refusal};
 
-/// Tests the database and the query as a run does, then the rule. A refused query stays as given.
+/// Tests the database and the query as a run does, then the rule. A refused query stays as given, in an accepted one every
+/// `mu` is split.
 pub fn rewrite(database: &Database, query: &Query, kind: u32, node: u32) -> Result<Query, Refusal> {
     database.form()?;
     let checked = check(query, database.schema())?;
     apply(&checked, query, kind, node)
 }
 
-/// One step on a checked query.
+/// One step on a checked query: the rule's lines in its split. Entries past the new count stay as given.
 pub fn apply(checked: &Checked, query: &Query, kind: u32, node: u32) -> Result<Query, Refusal> {
     let all = checked.root.nodes();
     let Some(named) = all.iter().find(|term| term.node as u64 == u64::from(node)) else {
@@ -23,8 +24,11 @@ pub fn apply(checked: &Checked, query: &Query, kind: u32, node: u32) -> Result<Q
     };
     rule.test(checked)?;
     let mut result = query.clone();
-    let lines = rule.lines(query.lines(), named.line);
-    result.nodes[named.first() - 1..named.node].copy_from_slice(&lines);
+    let split = checked.lines();
+    let written = rule.lines(&split, named.line);
+    result.nodes[..split.len()].copy_from_slice(&split);
+    result.nodes[named.first() - 1..named.node].copy_from_slice(&written);
+    result.count = split.len() as u32;
     Ok(result)
 }
 

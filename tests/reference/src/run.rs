@@ -18,7 +18,7 @@ pub const fn workspace_entries(registers: usize, row_limit: u32) -> usize {
     registers * (1 + COLUMNS * row_limit as usize)
 }
 
-/// Tests 11, 2, 1, 3 to 10, 16, the workspace (17), then runs and tests the answer slice (17). A run that began leaves the
+/// Tests 11, 2, 1, 3, 20, 4 to 10, 16, the workspace (17), then runs and tests the answer slice (17). A run that began leaves the
 /// whole workspace zeros, any other leaves it alone; only acceptance writes the answer slice, 8 entries a row.
 pub fn run(
     database: &Database,

@@ -24,20 +24,26 @@ pub fn step_folder() -> PathBuf {
     Path::new(env!("CARGO_MANIFEST_DIR")).join("../steps")
 }
 
-/// One test a folder: `answer` prints its expected.txt. A missing file counts as empty.
+/// One test a folder: `answer` prints its expected.txt.
 pub fn cases(folder: &Path) -> Vec<Outcome> {
-    folders(folder, "case", |path| {
-        let file = |name: &str| std::fs::read(path.join(name)).unwrap_or_default();
-        answer(&file("sheet.txt"), &file("book.txt"), &file("steps.txt"))
-    })
+    folders(folder, "case", print_answer_of)
+}
+
+/// What `answer` prints in a folder of tests/cases. A missing file counts as empty.
+pub fn print_answer_of(folder: &Path) -> Vec<u8> {
+    let file = |name: &str| std::fs::read(folder.join(name)).unwrap_or_default();
+    answer(&file("sheet.txt"), &file("book.txt"), &file("steps.txt"))
 }
 
 /// One test a folder: what is read of its texts is what its expected.txt says.
 pub fn readings(folder: &Path) -> Vec<Outcome> {
-    folders(folder, "reading", |path| {
-        let file = |name: &str| std::fs::read(path.join(name)).ok();
-        reading(file("query.txt").as_deref(), file("database.txt").as_deref(), file("step.txt").as_deref())
-    })
+    folders(folder, "reading", print_reading_of)
+}
+
+/// What is read of the texts of a folder of tests/readings.
+pub fn print_reading_of(folder: &Path) -> Vec<u8> {
+    let file = |name: &str| std::fs::read(folder.join(name)).ok();
+    reading(file("query.txt").as_deref(), file("database.txt").as_deref(), file("step.txt").as_deref())
 }
 
 /// One test a folder: the sheets that its steps write and the plan are what its expected.txt says.

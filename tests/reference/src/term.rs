@@ -1,5 +1,6 @@
 //! A query as a tree: operands, closed nodes, and the path of a fix.
 
+use crate::algebra::Pairing;
 use crate::value::{refuse, Node, Refusal};
 
 /// The tree that ends at a node; nodes count from 1.
@@ -48,6 +49,18 @@ impl Term {
         matches!(self.line, Node::Fix(_))
     }
 
+    pub fn is_mu(&self) -> bool {
+        matches!(self.line, Node::Mu(_))
+    }
+
+    /// The branches of a body, left to right: it is cut at the unions that reach up to its root through unions only.
+    pub fn branches(&self) -> Vec<&Term> {
+        match self.line {
+            Node::Pair(Pairing::Union) => self.operands.iter().flat_map(Term::branches).collect(),
+            _ => vec![self],
+        }
+    }
+
     pub fn seed(&self) -> &Term {
         &self.operands[0]
     }
@@ -56,7 +69,8 @@ impl Term {
         &self.operands[1]
     }
 
-    /// Closed: each `var=V` in it lies in the step of a `fix=V` in it.
+    /// Closed: each `var=V` in it lies in the step of a `fix=V` or in the body of a `mu=V` in it. A variable of a body keeps its
+    /// branch open, so it lies in the step once the `mu` is split.
     pub fn closed(&self) -> bool {
         self.free() == 0
     }
@@ -66,6 +80,7 @@ impl Term {
         match self.line {
             Node::Var(v) => 1 << v,
             Node::Fix(v) => self.seed().free() | self.step().free() & !(1 << v),
+            Node::Mu(v) => self.operands[0].free() & !(1 << v),
             _ => self.operands.iter().fold(0, |all, operand| all | operand.free()),
         }
     }

@@ -88,6 +88,7 @@ pub fn read_node(line: &[u8]) -> Option<Node> {
         b"table" => one(TABLES - 1).map(Node::Table),
         b"var" => one(variable).map(Node::Var),
         b"fix" => one(variable).map(Node::Fix),
+        b"mu" => one(variable).map(Node::Mu),
         b"drop" => one(column).map(Node::Drop),
         b"fact" => two(u32::MAX).map(|(c, w)| Node::Fact(c, w)),
         b"eq" => two(u32::MAX).map(|(c, w)| Node::Filter(Condition::Eq(c, w))),
@@ -196,6 +197,7 @@ pub fn print_node(node: &Node) -> String {
         Node::Copy(a, b) => format!("copy={a},{b}"),
         Node::Drop(a) => format!("drop={a}"),
         Node::Fix(v) => format!("fix={v}"),
+        Node::Mu(v) => format!("mu={v}"),
     }
 }
 

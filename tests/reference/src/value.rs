@@ -29,13 +29,15 @@ pub enum Node {
     Copy(u8, u8),
     Drop(u8),
     Fix(u8),
+    /// A recursion typed in one piece: its operand is the body.
+    Mu(u8),
 }
 
 impl Node {
     pub fn arity(&self) -> usize {
         match self {
             Node::Table(_) | Node::Var(_) | Node::Fact(..) => 0,
-            Node::Filter(_) | Node::Copy(..) | Node::Drop(_) => 1,
+            Node::Filter(_) | Node::Copy(..) | Node::Drop(_) | Node::Mu(_) => 1,
             Node::Pair(_) | Node::Fix(_) => 2,
         }
     }
@@ -43,7 +45,7 @@ impl Node {
     /// The columns that the line names.
     pub fn names(&self) -> Columns {
         match *self {
-            Node::Table(_) | Node::Var(_) | Node::Pair(_) | Node::Fix(_) => Columns::new(),
+            Node::Table(_) | Node::Var(_) | Node::Pair(_) | Node::Fix(_) | Node::Mu(_) => Columns::new(),
             Node::Fact(c, _) | Node::Drop(c) => Columns::from([c]),
             Node::Filter(condition) => condition.columns(),
             Node::Copy(a, b) => Columns::from([a, b]),
@@ -53,7 +55,7 @@ impl Node {
     fn on_the_form(&self) -> bool {
         let number = match *self {
             Node::Table(number) => u32::from(number) < TABLES,
-            Node::Var(number) | Node::Fix(number) => number < VARIABLES,
+            Node::Var(number) | Node::Fix(number) | Node::Mu(number) => number < VARIABLES,
             _ => true,
         };
         number && self.names().iter().all(|c| usize::from(*c) < COLUMNS)

@@ -3,7 +3,7 @@
 use super::{ensure, told, Coverage, Verdict, MOST};
 use crate::check::check;
 use crate::damage;
-use crate::meaning::meaning;
+use crate::meaning::meaning_of;
 use crate::panel;
 use crate::plan::plan;
 use crate::random::{self, Random};
@@ -21,7 +21,7 @@ const DAMAGED: usize = 4;
 pub struct Met {
     /// Steps that the panel accepted by kind, and its refusals by number.
     kinds: [u32; 7],
-    numbers: [u32; 20],
+    numbers: [u32; 21],
     /// Texts and checked values with one node too many for the panel alone.
     one_more: [u32; 2],
     /// Runs that both finished, that 18 ended at the panel alone, at the desk alone; and those after steps that both finished.
@@ -120,6 +120,7 @@ pub fn replies(random: &mut Random, coverage: &mut Coverage) -> Verdict {
         match random.below(8) {
             0 => (off, _) = damage::database(random, &database),
             1 => harmed.nodes[random.below(query.count as usize)] = Node::Drop(COLUMNS as u8),
+            2 => harmed = damage::spoilt(random, &query).map_or(query.clone(), |spoilt| spoilt.query),
             _ => harmed = damage::query(random, &query),
         }
         one_reply(random, coverage, &off, &harmed)?;
@@ -201,7 +202,8 @@ fn finished(answer: Answer, mut slots: Vec<u32>) -> Finished {
     (answer, slots)
 }
 
-/// With the workspace and the answer slice that are enough for such a query.
+/// With the workspace and the answer slice that are enough for such a query: a `mu` becomes a fix, which has one node fewer and
+/// one register more.
 fn desk_run(database: &Database, query: &Query, row_limit: u32, budget: u32) -> Result<Finished, Refusal> {
     let fixes = query.lines().iter().filter(|line| matches!(line, Node::Fix(_))).count();
     let mut workspace = vec![7; workspace_entries(query.count as usize + fixes, row_limit)];
@@ -232,8 +234,7 @@ pub fn runs(random: &mut Random, coverage: &mut Coverage) -> Verdict {
         (Ok(desk), Ok(panel)) => {
             *both += 1;
             ensure(desk == panel, "another answer at the panel", &query, &database)?;
-            let root = check(&query, database.schema()).expect("it ran").root;
-            if let Some(rows) = meaning(&root, &database.relations(), MOST) {
+            if let Some(rows) = meaning_of(&query, &database.relations(), MOST) {
                 ensure(slots_of(&rows) == panel.1, "not the meaning", &query, &database)?;
             }
             Ok(true)

@@ -1,9 +1,9 @@
 //! Books of zero bytes, and the texts that are nearest to them.
 
-use super::{ensure, prints, Coverage, Verdict, MOST};
+use super::{ensure, prints, told, Coverage, Verdict, MOST};
 use crate::answer::{answer, NODES};
 use crate::check::check;
-use crate::meaning::meaning;
+use crate::meaning::meaning_of;
 use crate::random::{self, Random};
 use crate::selfcheck::{shown, Outcome};
 use crate::text::{print_query, print_steps, read_database, read_query, NO_TABLES};
@@ -48,7 +48,8 @@ pub fn shortest_texts(random: &mut Random, _: &mut Coverage) -> Verdict {
     }
 }
 
-/// Over a book of zero bytes a sheet that names a table gets 10 at the lowest such node; any other one gives its meaning.
+/// Over a book of zero bytes a sheet that names a table gets 10 at the lowest such node of its split; any other one gives its
+/// meaning.
 pub fn first_days(random: &mut Random, coverage: &mut Coverage) -> Verdict {
     let none = Database::stored(&[], 0);
     let database = if random.once_in(2) { none.clone() } else { random::database(random) };
@@ -56,7 +57,10 @@ pub fn first_days(random: &mut Random, coverage: &mut Coverage) -> Verdict {
     let steps = if random.once_in(2) { Vec::new() } else { random::steps(random, &query) };
     let printed = shown(&answer(&print_query(&query), b"", &print_steps(&steps)));
     let wrong = |due: &str| format!("printed\n{printed}and not {due} after {steps:?}");
-    if let Some(index) = query.lines().iter().position(|line| matches!(line, Node::Table(_))) {
+    let Ok(split) = check(&query, database.schema()).map(|checked| checked.lines()) else {
+        return Err(format!("not checked over its own book{}", told(&query, &database)));
+    };
+    if let Some(index) = split.iter().position(|line| matches!(line, Node::Table(_))) {
         let due = format!("refused=10,{}\n", index + 1);
         ensure(printed == due, &wrong(&due), &query, &none)?;
         coverage.first_day.refused += 1;
@@ -65,7 +69,7 @@ pub fn first_days(random: &mut Random, coverage: &mut Coverage) -> Verdict {
     let Ok(checked) = check(&query, &[]) else {
         return Err(wrong("checked"));
     };
-    let (Some(rows), false) = (meaning(&checked.root, &[], MOST), printed.starts_with("refused=")) else {
+    let (Some(rows), false) = (meaning_of(&query, &[], MOST), printed.starts_with("refused=")) else {
         let known = ["12", "13", "14", "15", "18"].map(|number| format!("refused={number},0\n"));
         ensure(known.contains(&printed), &wrong("one of 12 to 15 and 18"), &query, &none)?;
         return Ok(false);

@@ -93,6 +93,9 @@ returns-8 c =
     let l = m .before .before in
     c .accept-if6 .ensures ∙ ap (failed l) (c .before .same-columns .ensures) ∙ told l _ (m .enum-told3 .given .1)
 
+returns-9 : tie.Need-returns-9
+returns-9 c = told (c .before .before) _ (c .enum-told4 .given .1)
+
 pub second-fault-spec : {M : Type 1} → statement M
 second-fault-spec =
     tie.close (tie.spec (λ c κs. search needs) (λ c κs. search needs) (λ c. search needs) (λ c. search needs) (λ c κs. search needs)
@@ -100,5 +103,5 @@ second-fault-spec =
     (λ c κs. search needs) (λ c. search needs) (λ c. search needs) (λ c. search needs) (λ c κs. search needs) (λ c. search needs)
     (λ c κs. search needs) (λ c. search needs) (λ c κs. search needs) (λ c. search needs) (λ c κs. search needs) (λ c. search needs)
     (λ c κs. search needs) (λ c. search needs) (λ c κs. search needs) (λ c. search needs) (λ c. search needs) (λ c κs. search needs)
-    (λ c. search needs) (λ c κs. search needs) (λ c. search needs) (λ c κs. search needs) (λ c. search needs) (λ c κs. search needs) returns returns-2
-    returns-3 returns-4 returns-5 returns-6 returns-7 returns-8)
+    (λ c. search needs) (λ c κs. search needs) (λ c. search needs) (λ c κs. search needs) (λ c. search needs) (λ c κs. search needs) (λ c. search needs) returns returns-2
+    returns-3 returns-4 returns-5 returns-6 returns-7 returns-8 returns-9)

@@ -17,7 +17,7 @@ returns c =
     let a = m .before .before .before .before .args in
     let G = schema columns (a .database) in
     c .refusal .ensures G refl
-    ∙ ap (checkedValue G)
+    ∙ ap (checkedValue G (a .query))
     (sym (book-refused columns (min (a .limit) nodeLimit) (a .query) (a .database) (now (a .store)) (sym (m .cause .given .1) ∙ m .before .before .check-database .ensures)))
 
 returns-2 : tie.Need-returns-2
@@ -26,7 +26,7 @@ returns-2 c =
     let a = m .before .before .args in
     let G = schema columns (a .database) in
     c .check-query .ensures
-    ∙ ap (checkedValue G)
+    ∙ ap (checkedValue G (a .query))
     (sym (book-passed columns (min (a .limit) nodeLimit) (a .query) (a .database) (now (a .store)) (sym (c .before .enum-told .given .1) ∙ m .check-database .ensures)))
 
 pub check-spec : {M : Type 1} → statement M

@@ -8,7 +8,7 @@ use Rattle.database.proofs.Verdicts.{verdict-refused}
 use Rattle.query.specs.Lines.{nodes, termOf}
 use Rattle.query.specs.Facts.{checkedValue}
 use Rattle.query.specs.Passes.{firstOf}
-use Rattle.checking.specs.CheckStages.{checkTerm}
+use Rattle.checking.specs.CheckStages.{passTerm}
 use Rattle.checking.proofs.StageReplies.{passes-verdict, passes-passed, shaped-facts}
 use Rattle.checking.proofs.stages.check_passes.Statement.{statement}
 use Rattle.checking.proofs.stages.check_passes.Tie as tie
@@ -16,11 +16,11 @@ use Rattle.checking.proofs.stages.check_passes.Tie as tie
 -- the first of the two refusals is the check's
 told : (c : tie.After-first-of)
     → let a = c .before .before .before .before .before .args in
-    c .first-of .result ≡ verdict (checkTerm (a .query) (schema columns (a .database)))
+    c .first-of .result ≡ verdict (passTerm (schema columns (a .database)) (termOf (nodes (a .split))))
 told c =
     let a = c .before .before .before .before .before .args in
     c .first-of .ensures ∙ ap₂ firstOf (c .before .before .first-pass .ensures) (c .before .second-pass .ensures)
-    ∙ passes-verdict (schema columns (a .database)) (termOf (nodes (a .query)))
+    ∙ passes-verdict (schema columns (a .database)) (termOf (nodes (a .split)))
 
 returns : tie.Need-returns
 returns c =
@@ -28,16 +28,16 @@ returns c =
     let f = m .before .before in
     let a = f .before .before .before .before .before .args in
     let G = schema columns (a .database) in
-    c .refusal .ensures G refl ∙ ap (checkedValue G) (sym (verdict-refused (checkTerm (a .query) G) (sym (m .cause .given .1) ∙ told f)))
+    c .refusal .ensures G refl ∙ ap (checkedValue G (a .query)) (sym (verdict-refused (passTerm G (termOf (nodes (a .split)))) (sym (m .cause .given .1) ∙ told f)))
 
 returns-2 : tie.Need-returns-2
 returns-2 c =
     let f = c .before .before in
     let s = f .before .before .before .before .before in
     let G = schema columns (s .args .database) in
-    shaped-facts (s .args .query) (s .args .start) (s .pre .0) (s .args .database) _ (f .before .before .before .before .free-sets .ensures G) _
+    shaped-facts (s .args .query) (s .args .split) (s .args .start) (s .pre .0) (s .pre .2) (s .args .database) _ (f .before .before .before .before .free-sets .ensures G) _
     (f .before .before .before .column-sets .ensures)
-    ∙ ap (checkedValue G) (sym (passes-passed G (termOf (nodes (s .args .query))) (sym (c .enum-told .given .1) ∙ told f)))
+    ∙ ap (checkedValue G (s .args .query)) (sym (passes-passed G (termOf (nodes (s .args .split))) (sym (c .enum-told .given .1) ∙ told f)))
 
 pub check-passes-spec : {M : Type 1} → statement M
 check-passes-spec =

@@ -24,7 +24,7 @@ returns c =
     let s = m .before .before .before in
     let G = schema columns (s .args .database) in
     c .refusal .ensures G refl
-    ∙ ap (checkedValue G) (sym (form-refused (s .args .query) G (min (s .args .limit) nodeLimit) (sym (m .cause .given .1) ∙ m .before .before .check-form .ensures)))
+    ∙ ap (checkedValue G (s .args .query)) (sym (form-refused (s .args .query) G (min (s .args .limit) nodeLimit) (sym (m .cause .given .1) ∙ m .before .before .check-form .ensures)))
 
 returns-2 : tie.Need-returns-2
 returns-2 c =
@@ -32,7 +32,7 @@ returns-2 c =
     let s = m .before in
     let G = schema columns (s .args .database) in
     c .check-shape .ensures
-    ∙ ap (checkedValue G) (sym (form-passed (s .args .query) G (min (s .args .limit) nodeLimit) (sym (c .before .enum-told .given .1) ∙ m .check-form .ensures)))
+    ∙ ap (checkedValue G (s .args .query)) (sym (form-passed (s .args .query) G (min (s .args .limit) nodeLimit) (sym (c .before .enum-told .given .1) ∙ m .check-form .ensures)))
 
 pub check-query-spec : {M : Type 1} → statement M
 check-query-spec =

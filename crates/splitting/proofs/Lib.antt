@@ -1,0 +1,9 @@
+pub mod Drawing
+pub mod Nodes
+pub mod EmitSteps
+pub mod EmitGroups
+pub mod BranchTests
+pub mod MuFaults
+pub mod SplitWalk
+pub mod DrawnLines
+pub mod WholeSplit
