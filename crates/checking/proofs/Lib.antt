@@ -1,2 +1,3 @@
 pub mod FaultNodes
 pub mod StageReplies
+pub mod Handed
