@@ -87,7 +87,7 @@ uint64_t capeshard_check(const uint32_t *query, size_t query_len, const uint32_t
                          size_t store_len, size_t limit);
 
 /* Rewrites a query by a kind at a node (as the check, then 12 to 15); accepted, the query is the rule's, with each mu split; refused, it is
- * unchanged. */
+ * unchanged. A column that must be stable (13) is one that the step's result has with itself as origin: a copy passes the origin on, a drop removes it. */
 uint64_t capeshard_rewrite(uint32_t *query, size_t query_len, const uint32_t *database, size_t database_len, const uint32_t *store, size_t store_len,
                            size_t limit, uint32_t kind, uint32_t node);
 

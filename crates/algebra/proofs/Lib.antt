@@ -7,11 +7,14 @@ pub mod Unknown
 pub mod ColumnSets
 pub mod Typing
 pub mod Typed
+pub mod Open
+pub mod Origins
+pub mod ComesHome
+pub mod Undropped
 pub mod Rider
 pub mod Ride
-pub mod Open
 pub mod Along
-pub mod Roles
+pub mod Riders
 pub mod Widen
 pub mod FixRows
 pub mod SelectFix
@@ -21,6 +24,7 @@ pub mod Renamed
 pub mod JoinFixes
 pub mod Narrow
 pub mod Redex
+pub mod UndroppedEnough
 pub mod Enough
 pub mod Written
 pub mod Sound

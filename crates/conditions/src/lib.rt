@@ -4,11 +4,12 @@ use column_sets::has_column;
 use database::Refusal;
 use database::Verdict;
 use matching::Found;
+use origins::unstable_columns;
 use query::Facts;
 use query::Query;
 use relation::COLUMNS;
 use relation::Columns;
-use rewrite::path::path;
+use rewrite::path::used_columns;
 use scoping::first_pass::accept_if;
 use scoping::first_pass::first_of;
 use scoping::none_in;
@@ -56,9 +57,8 @@ fn shared_kept(query: Query, facts: Facts, fix: usize, other: usize) -> bool
     requires { ⌜ (fix < query .count) × (other < query .count) × (query .count ≤ nodeLimit) × StartsLow facts ⌝ }
     ensures { λ r. ⌜ r ≡ sharedKept query facts fix other ⌝ }
 {
-    let along = path(query, facts, fix);
-    let dropped = along.dropped;
-    apart(true, facts.columns[fix], facts.columns[other], dropped)
+    let unstable = unstable_columns(query, facts, fix);
+    apart(true, facts.columns[fix], facts.columns[other], unstable)
 }
 
 // "the operand's other columns are not used"
@@ -66,8 +66,7 @@ fn others_fresh(query: Query, facts: Facts, fix: usize, other: usize) -> bool
     requires { ⌜ (fix < query .count) × (other < query .count) × (query .count ≤ nodeLimit) × StartsLow facts ⌝ }
     ensures { λ r. ⌜ r ≡ othersFresh query facts fix other ⌝ }
 {
-    let along = path(query, facts, fix);
-    let used = along.used;
+    let used = used_columns(query, facts, fix);
     apart(false, facts.columns[fix], facts.columns[other], used)
 }
 
@@ -94,9 +93,8 @@ fn filter_kept(query: Query, facts: Facts, condition: Condition, fix: usize) -> 
     requires { ⌜ (fix < query .count) × (query .count ≤ nodeLimit) × StartsLow facts ⌝ }
     ensures { λ r. ⌜ r ≡ filterKept query facts condition fix ⌝ }
 {
-    let along = path(query, facts, fix);
-    let dropped = along.dropped;
-    none_named(condition, dropped)
+    let unstable = unstable_columns(query, facts, fix);
+    none_named(condition, unstable)
 }
 
 // "The column is not used."
@@ -104,8 +102,7 @@ fn drop_fresh(query: Query, facts: Facts, column: u32, fix: usize) -> bool
     requires { ⌜ (fix < query .count) × (query .count ≤ nodeLimit) × StartsLow facts ⌝ }
     ensures { λ r. ⌜ r ≡ dropFresh query facts column fix ⌝ }
 {
-    let along = path(query, facts, fix);
-    let used = along.used;
+    let used = used_columns(query, facts, fix);
     !has_column(used, column as usize)
 }
 

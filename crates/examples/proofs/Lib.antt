@@ -2,3 +2,4 @@ pub mod Texts
 pub mod Values
 pub mod Panel
 pub mod OnePiece
+pub mod Floors

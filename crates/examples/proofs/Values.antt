@@ -2,7 +2,7 @@
 use mathlib.Core.Path.{_≡_, refl}
 use mathlib.Core.List.{List, [], _∷_, map}
 use Rattle.laws.specs.Lists.{every, any, sift, all, lowest, tabulate}
-use Rattle.algebra.specs.Columns.{with, without, both, pairCols, cols, free, size, fixes, fixNumbers, dropped, used}
+use Rattle.algebra.specs.Columns.{with, without, both, pairCols, cols, free, size, fixes, fixNumbers, pairOrigin, origin, used}
 use Rattle.algebra.specs.Split.{branches, unitedFrom, split}
 use Rattle.algebra.specs.Rules.{loopOf, over, overBoth, pairMatch, match, sharedStable, othersUnused, stableEnough, unusedEnough, closedEnough, rename, written}
 use Rattle.relation.specs.Rows.{ordered, ascend, rowsOf, entries}
@@ -18,9 +18,9 @@ use Rattle.machine.specs.Run.{execute, begin, runQuery}
 use Rattle.examples.specs.Values.{Rewriting, rewrites, rewritings, Expected, runs, runnings}
 
 pub rewritings-hold : map rewrites rewritings ≡ map (λ (x : Rewriting). x .expected) rewritings
-unfolding every any sift all lowest tabulate with without both pairCols cols free size fixes fixNumbers dropped used loopOf over overBoth pairMatch match sharedStable othersUnused stableEnough unusedEnough closedEnough rename written ordered ascend rowsOf entries insert insertAll compatible combined joinRows exceptRows tableStart tableOk checkDatabase checkForm lines push read termOf branches unitedFrom split splitFaults splitTerm unless firstPass secondPass faults checkQuery checkOver filled around rule endedAt rewrite source ownLine loop pathLines closedLines besideLines planLines effectOf step run execute begin runQuery mathlib.Core.List.flatMap
+unfolding every any sift all lowest tabulate with without both pairCols cols free size fixes fixNumbers pairOrigin origin used loopOf over overBoth pairMatch match sharedStable othersUnused stableEnough unusedEnough closedEnough rename written ordered ascend rowsOf entries insert insertAll compatible combined joinRows exceptRows tableStart tableOk checkDatabase checkForm lines push read termOf branches unitedFrom split splitFaults splitTerm unless firstPass secondPass faults checkQuery checkOver filled around rule endedAt rewrite source ownLine loop pathLines closedLines besideLines planLines effectOf step run execute begin runQuery mathlib.Core.List.flatMap
 rewritings-hold = refl
 
 pub runnings-hold : map (λ (x : Expected). runs (x .running)) runnings ≡ map (λ (x : Expected). x .ending) runnings
-unfolding every any sift all lowest tabulate with without both pairCols cols free size fixes fixNumbers dropped used loopOf over overBoth pairMatch match sharedStable othersUnused stableEnough unusedEnough closedEnough rename written ordered ascend rowsOf entries insert insertAll compatible combined joinRows exceptRows tableStart tableOk checkDatabase checkForm lines push read termOf branches unitedFrom split splitFaults splitTerm unless firstPass secondPass faults checkQuery checkOver filled around rule endedAt rewrite source ownLine loop pathLines closedLines besideLines planLines effectOf step run execute begin runQuery mathlib.Core.List.flatMap
+unfolding every any sift all lowest tabulate with without both pairCols cols free size fixes fixNumbers pairOrigin origin used loopOf over overBoth pairMatch match sharedStable othersUnused stableEnough unusedEnough closedEnough rename written ordered ascend rowsOf entries insert insertAll compatible combined joinRows exceptRows tableStart tableOk checkDatabase checkForm lines push read termOf branches unitedFrom split splitFaults splitTerm unless firstPass secondPass faults checkQuery checkOver filled around rule endedAt rewrite source ownLine loop pathLines closedLines besideLines planLines effectOf step run execute begin runQuery mathlib.Core.List.flatMap
 runnings-hold = refl

@@ -70,9 +70,13 @@ pub not-false : (a : Bool) → not a ≡ true → a ≡ false
 not-false true e = sym e
 not-false false e = refl
 
-pub if-same : (b : Bool) → if b then true else true ≡ true
-if-same true = refl
-if-same false = refl
+pub not-not : (a : Bool) → not (not a) ≡ a
+not-not true = refl
+not-not false = refl
+
+pub if-same {ℓ} : {A : Type ℓ} (b : Bool) (x : A) → (if b then x else x) ≡ x
+if-same true x = refl
+if-same false x = refl
 
 pub if-apply {ℓ κ} : {A : Type ℓ} {B : Type κ} (f : A → B) (b : Bool) (x y : A) → f (if b then x else y) ≡ if b then f x else f y
 if-apply f true x y = refl

@@ -1,5 +1,5 @@
 -- What 13 to 15 ask by the indices is what they ask of the match.
-use mathlib.Core.Path.{_≡_, refl, ap, ap₂}
+use mathlib.Core.Path.{_≡_, refl, ap, ap₂, _∙_}
 use mathlib.Core.Bool.{Bool, true, not, _&&_}
 use mathlib.Core.List.{List, [], _∷_}
 use Prim.Native.Nat.{ℕ, _≤_, _<_}
@@ -7,7 +7,7 @@ use lib.Dec.{ltb}
 use lib.ListN.{length}
 use borrow.Author.Tests.{ltb-true}
 use Rattle.laws.specs.Lists.{every}
-use Rattle.laws.proofs.Tests.{and-true-left, and-true-right}
+use Rattle.laws.proofs.Tests.{and-true-left, and-true-right, not-not}
 use Rattle.laws.proofs.Passes.{every-split}
 use Rattle.algebra.specs.declared.Condition.{Condition}
 use Rattle.algebra.specs.Term.{Term, filter, drop}
@@ -24,7 +24,7 @@ use Rattle.query.specs.Facts.{visits, factsOf}
 use Rattle.query.proofs.CheckReply.{Checked}
 use Rattle.matching.specs.Found.{isFound, stableAt, unusedAt, closedAt}
 use Rattle.matching.proofs.Standing.{Here, pair-left, pair-right, filter-down, drop-down}
-use Rattle.matching.proofs.Loops.{here-formed, here-closed, dropped-is, used-is, shared-is, others-is}
+use Rattle.matching.proofs.Loops.{here-formed, here-closed, unstable-is, used-is, shared-is, others-is}
 use Rattle.matching.proofs.Matched.{foundOf}
 
 -- tests that agree on each column below n
@@ -62,7 +62,7 @@ module _ (d : Database) (limit : ℕ) (q : Query) (t : Term) (checked : Checked 
     unfolding stableEnough cols
     stable-is (filter-fix f x) h =
         every-same _ _ columns (named f) (filter-formed f (fixOf x) (here-formed d limit q t checked counted fits h))
-        (λ c k. ap not (dropped-is d limit q t checked counted fits x (filter-down d q t (checked .written) h) c k))
+        (λ c k. ap not (unstable-is d limit q t checked counted fits x (filter-down d q t (checked .written) h) c k) ∙ not-not _)
     stable-is (fix-join x o) h =
         shared-is d limit q t checked counted fits x (pair-left d q t (checked .written) h) (pair-right d q t (checked .written) h) (cols G C o) (λ c. refl)
     stable-is (join-fix o x) h =

@@ -1,4 +1,4 @@
--- The fixes and the operands of a checked query, by the indices of their lines: their columns, what their paths drop and use, whether they are closed.
+-- The fixes and the operands of a checked query, by the indices of their lines: their columns, which are stable and which are used in their steps, whether they are closed.
 use mathlib.Core.Path.{_≡_, refl, ap, ap₂, sym, _∙_}
 use mathlib.Core.Bool.{Bool, true, false, not, _&&_, _||_}
 use mathlib.Core.Logic.{inl, inr}
@@ -10,10 +10,10 @@ use borrow.Author.Tests.{ltb-true}
 use lib.ListN.{length, length-append}
 use Rattle.laws.specs.Lists.{_==_, every, all}
 use Rattle.laws.proofs.Lists.{count, count-append, count-head, count-absent}
-use Rattle.laws.proofs.Tests.{and-true-left}
+use Rattle.laws.proofs.Tests.{and-true-left, not-not}
 use Rattle.laws.proofs.Passes.{every-split, every-at}
 use Rattle.algebra.specs.Term.{Term}
-use Rattle.algebra.specs.Columns.{Cols, noCols, Schema, cols, isClosed, size, fixNumbers, dropped, used, stable}
+use Rattle.algebra.specs.Columns.{Cols, noCols, Schema, cols, isClosed, size, fixNumbers, stable, used}
 use Rattle.algebra.specs.WellFormed.{Closed, c-fix, Path}
 use Rattle.algebra.specs.Rules.{Loop, sharedStable, othersUnused}
 use Rattle.algebra.proofs.Distinct.{distinct-count}
@@ -36,13 +36,13 @@ use Rattle.query.proofs.ScopeNodes.{closed-set}
 use Rattle.query.proofs.Starts.{size-pos, begins-low}
 use Rattle.query.proofs.TermLines.{term-lines}
 use Rattle.query.proofs.Visits.{visits-starts}
-use Rattle.rewrite.specs.declared.PathColumns.{PathColumns}
 use Rattle.rewrite.specs.Places.{startAt, freeAt, last, Told, Stands, StartsLow, LoopAt}
 use Rattle.rewrite.proofs.GrownColumns.{columns-back}
 use Rattle.rewrite.proofs.OnPath.{stands-told}
-use Rattle.rewrite.proofs.AlongPath.{loop-path}
+use Rattle.rewrite.proofs.AlongPath.{loop-used}
+use Rattle.origins.proofs.StepOrigins.{loop-unstable}
 use Rattle.rewrite.proofs.RuleSheet.{few-numbers}
-use Rattle.matching.specs.Found.{colsAt, droppedAt, usedAt, sharedKept, othersFresh}
+use Rattle.matching.specs.Found.{colsAt, unstableAt, usedAt, sharedKept, othersFresh}
 use Rattle.matching.proofs.Standing.{Here, here-stands, here-reads, here-lines, here-place, under}
 
 -- tests that agree on each number below n
@@ -52,8 +52,8 @@ all-same p r zero h = refl
 all-same p r (suc n) h = ap₂ _&&_ (all-same p r n (λ c k. h c (omega arith))) (h n (omega arith))
 
 -- a column that both have, and one that the operand has and the fix lacks
-shared-same : (d e m : Bool) → not (e && (d == true)) || not m ≡ not (d && e) || not m
-shared-same true true m = refl
+shared-same : (d e m : Bool) → not (e && (d == true)) || not (not m) ≡ not (d && e) || m
+shared-same true true m = not-not m
 shared-same true false m = refl
 shared-same false true m = refl
 shared-same false false m = refl
@@ -141,6 +141,7 @@ module _ (d : Database) (limit : ℕ) (q : Query) (t : Term) (checked : Checked 
         path = fix-path x (fix-closed x h);
         apart = count-absent v (fixNumbers (x .step)) (omega arith);
         number = fix-formed x (here-formed h);
+        formed = checked .on-form;
         within = omega arith;
         fits = fits;
         low = low;
@@ -159,11 +160,14 @@ module _ (d : Database) (limit : ℕ) (q : Query) (t : Term) (checked : Checked 
     abbrev f : ℕ
     f = last n (fixOf x)
 
-    pub dropped-is : (c : ℕ) → c < columns → droppedAt q facts f c ≡ dropped (x .step) c
-    dropped-is c k = ap (λ (p : PathColumns). colsOf columns (p .dropped) c) (loop-path (loop-at x h)) ∙ columns-back columns (dropped (x .step)) c k
+    abbrev kept : Cols
+    kept = stable (cols G C (x .seed)) (x .step)
+
+    pub unstable-is : (c : ℕ) → c < columns → unstableAt q facts f c ≡ not (kept c)
+    unstable-is c k = ap (λ (s : Columns). colsOf columns s c) (loop-unstable (loop-at x h)) ∙ columns-back columns (λ c. not (kept c)) c k
 
     pub used-is : (c : ℕ) → c < columns → usedAt q facts f c ≡ used G (x .step) c
-    used-is c k = ap (λ (p : PathColumns). colsOf columns (p .used) c) (loop-path (loop-at x h)) ∙ columns-back columns (used G (x .step)) c k
+    used-is c k = ap (λ (s : Columns). colsOf columns s c) (loop-used (loop-at x h)) ∙ columns-back columns (used G (x .step)) c k
 
     fix-cols : (c : ℕ) → c < columns → colsAt q facts f c ≡ cols G C (x .seed) c
     unfolding cols
@@ -172,9 +176,9 @@ module _ (d : Database) (limit : ℕ) (q : Query) (t : Term) (checked : Checked 
     pub shared-is : {m : ℕ} {a : Term} → At C m a → (D : Cols) → ((c : ℕ) → cols G C a c ≡ D c) → sharedKept q facts f (last m a) ≡ sharedStable G C x D
     unfolding sharedStable
     shared-is {m} {a} o D same = all-same _ _ columns λ c k.
-        ap₂ (λ (u v : Bool). not (colsAt q facts (last m a) c && (u == true)) || not v) (fix-cols c k) (dropped-is c k)
-        ∙ ap (λ (e : Bool). not (e && (cols G C (x .seed) c == true)) || stable (x .step) c) (here-cols o c k ∙ same c)
-        ∙ shared-same (cols G C (x .seed) c) (D c) (dropped (x .step) c)
+        ap₂ (λ (u v : Bool). not (colsAt q facts (last m a) c && (u == true)) || not v) (fix-cols c k) (unstable-is c k)
+        ∙ ap (λ (e : Bool). not (e && (cols G C (x .seed) c == true)) || not (not (kept c))) (here-cols o c k ∙ same c)
+        ∙ shared-same (cols G C (x .seed) c) (D c) (kept c)
 
     pub others-is : {m : ℕ} {a : Term} → At C m a → (D : Cols) → ((c : ℕ) → cols G C a c ≡ D c) → othersFresh q facts f (last m a) ≡ othersUnused G C x D
     unfolding othersUnused

@@ -20,7 +20,8 @@ use Rattle.query.specs.Lines.{nodeLimit}
 use Rattle.query.specs.Shape.{hasStep}
 use Rattle.query.specs.FreeSets.{noneIn}
 use Rattle.rewrite.specs.Places.{lineAt, startAt, freeAt, columnsAt, fixNumber, StartsLow}
-use Rattle.rewrite.specs.Path.{pathAt}
+use Rattle.rewrite.specs.Path.{usedColumns}
+use Rattle.origins.specs.Origins.{unstableColumns}
 use Rattle.rewrite.specs.Splices.{withLines, exchanged, merged}
 use Rattle.matching.specs.declared.Found.{Found}
 use Rattle.matching.specs.declared.Found.the-variants.{Nothing, FilterFix, FixJoin, JoinFix, FixExcept, DropFix, FixFix}
@@ -109,19 +110,19 @@ abbrev pub apartAt : Bool → Cols → Cols → Cols → ℕ → Bool
 apartAt shared D E marked c = not (E c && (D c == shared)) || not (marked c)
 
 module _ (q : Query) (facts : Facts) where
-  -- the columns of the node of index x; of the path of the fix of index x, those that a drop on it names and those that are used
+  -- the columns of the node of index x; of the step of the fix of index x, those that are not stable and those that are used
   abbrev pub colsAt : ℕ → Cols
   colsAt x = colsOf columns (columnsAt facts x)
 
-  abbrev pub droppedAt : ℕ → Cols
-  droppedAt x = colsOf columns (pathAt q facts x .dropped)
+  abbrev pub unstableAt : ℕ → Cols
+  unstableAt x = colsOf columns (unstableColumns q facts x)
 
   abbrev pub usedAt : ℕ → Cols
-  usedAt x = colsOf columns (pathAt q facts x .used)
+  usedAt x = colsOf columns (usedColumns q facts x)
 
   -- "Shared columns are stable"
   abbrev pub sharedKept : ℕ → ℕ → Bool
-  sharedKept x o = all (apartAt true (colsAt x) (colsAt o) (droppedAt x)) columns
+  sharedKept x o = all (apartAt true (colsAt x) (colsAt o) (unstableAt x)) columns
 
   -- "the operand's other columns are not used"
   abbrev pub othersFresh : ℕ → ℕ → Bool
@@ -129,7 +130,7 @@ module _ (q : Query) (facts : Facts) where
 
   -- "The filter's columns are stable."
   abbrev pub filterKept : Condition → ℕ → Bool
-  filterKept f x = every (λ c. not (droppedAt x c)) (named f)
+  filterKept f x = every (λ c. not (unstableAt x c)) (named f)
 
   -- "The column is not used."
   abbrev pub dropFresh : ℕ → ℕ → Bool

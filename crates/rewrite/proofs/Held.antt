@@ -1,6 +1,5 @@
 -- What a list of steps keeps: the held sheet is checked over the first book's columns, and its term may be put for the first sheet's.
 use mathlib.Core.Path.{_≡_, refl, ap, sym, _∙_, subst}
-use mathlib.Core.Logic.{_⊎_, inl, inr}
 use mathlib.Core.Bool.{true}
 use mathlib.Core.List.{List, [], _∷_, _++_, map}
 use Prim.Native.Nat.{ℕ, _+_, _-_, _≤_}
@@ -16,7 +15,7 @@ use Rattle.algebra.proofs.Sizes.{size-positive}
 use Rattle.algebra.proofs.Narrow.{Narrow, below-none}
 use Rattle.algebra.proofs.Redex.{redex, matched}
 use Rattle.algebra.proofs.Conditions.{stable-iff, unused-iff, closed-iff}
-use Rattle.algebra.proofs.Sound.{Sound, rule-sound, match-open}
+use Rattle.algebra.proofs.Sound.{Sound, rule-sound}
 use Rattle.algebra.proofs.Swap.{Swap, swap-refl, swap-sound, swap-trans, swap-wellformed}
 use Rattle.database.specs.declared.Database.{Database}
 use Rattle.database.specs.Stored.{schema, SameColumns}
@@ -38,12 +37,11 @@ use Rattle.query.proofs.SplitSheet.{lines-back}
 use Rattle.query.proofs.CheckedTerms.{term-formed, term-few, well-checked}
 use Rattle.query.proofs.CheckedOver.{check-over-iff}
 use Rattle.query.proofs.NodeLimits.{checked-within, one-term}
-use Rattle.query.proofs.PartsFine.{parts-fine}
 use Rattle.query.proofs.Replaced.{Replaced, replaced}
 use Rattle.rewrite.specs.Rewrite.{rewrite, withNodes, handedBack, Step, held}
 use Rattle.rewrite.specs.Rewrite as R
 use Rattle.rewrite.proofs.OnForm.{OnForm, form-append, form-split, form-index, form-at, form-written}
-use Rattle.rewrite.proofs.NodeParts.{EndsAt, ends-at, part-narrow, around-narrow}
+use Rattle.rewrite.proofs.NodeParts.{EndsAt, ends-at, part-narrow, part-closed, around-narrow}
 use Rattle.rewrite.proofs.RewriteExact.{Accepted, accepted-iff}
 
 -- an accepted step was given a checked sheet
@@ -86,10 +84,7 @@ module _ (w limit : ℕ) (q : Query) (d : Database) (store : List ℕ) (t : Term
 
   -- the node is closed: at an open one no step is accepted
   pub node-closed : Closed G a
-  node-closed = elim (parts-fine G (lines t) t reads n a (ends .stack) (ends .reads) (checkedNow .well-formed .closed)) [
-    | inl c ↦ c
-    | inr (v, D, path) ↦ absurd (match-open path k m (x .matches) (closed-iff m .1 (x .closed)))
-  ]
+  node-closed = part-closed w limit q d store t over n a (x .ends) k m (x .matches) (closed-iff m .1 (x .closed))
 
   sound : Sound G a (written m)
   sound =

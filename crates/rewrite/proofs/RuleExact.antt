@@ -31,7 +31,7 @@ failed : {b : Bool} {P : Type 0} → (b ≡ true) ↔ P → b ≡ false → ¬ P
 failed f e p = true-false (sym (f .1 p) ∙ e)
 
 -- the tests after the match, one after the other
-tests : (s u c : Bool) (b : Term) → Reply Term
+unfoldable pub tests : (s u c : Bool) (b : Term) → Reply Term
 tests s u c b = do
   _ ← require s Unstable
   _ ← require u Used

@@ -1,9 +1,10 @@
 //! The cases passed and failed, and what the calls met.
 
 use crate::call::Call;
-use crate::slices::{has_mu, Slices};
+use crate::slices::{database_of, has_mu, query_of, Slices};
 use reference::panel;
-use reference::value::Refusal;
+use reference::properties::comes_home::{by_origin_alone, causes, CAUSES};
+use reference::value::{Refusal, NODES};
 use std::fmt::Debug;
 
 /// Differences that are printed in full.
@@ -31,6 +32,10 @@ pub struct Tally {
     mus: [u64; CALLS],
     mu_kinds: [[u64; 7]; 2],
     mu_numbers: [[u64; 21]; 2],
+    /// At desk and panel: rewrites by kind that are accepted though a `drop` names a column that must be stable, and refusals with
+    /// 13 by what the column comes from.
+    home_kinds: [[u64; 7]; 2],
+    home_causes: [[u64; CAUSES.len()]; 2],
     /// The most nodes, rows and lines run of a finished run at desk and panel.
     most: [[u32; 3]; 2],
     /// Answers with a 0 in the column that filters are put on.
@@ -78,6 +83,9 @@ impl Tally {
         if has_mu(if reads { &slices.query } else { &given.query }) {
             self.meet_mu(call, sort, at, reply);
         }
+        if let Call::Rewrite { kind, node, .. } | Call::PanelRewrite { kind, node } = call {
+            self.meet_stability(at, reply, given, (kind, node));
+        }
         match (reply, call) {
             (Ok(()), Call::Rewrite { kind, .. } | Call::PanelRewrite { kind, .. }) => {
                 self.kinds[at][kind as usize] += 1;
@@ -104,6 +112,23 @@ impl Tally {
         }
     }
 
+    fn meet_stability(&mut self, at: usize, reply: Result<(), Refusal>, given: &Slices, (kind, node): (u32, u32)) {
+        let taken = || (database_of(&given.database, &given.store), query_of(&given.query, NODES));
+        match reply {
+            Ok(()) => {
+                let (database, query) = taken();
+                self.home_kinds[at][kind as usize] += u64::from(by_origin_alone(&database, &query, kind, node));
+            }
+            Err(Refusal { number: 13, .. }) => {
+                let (database, query) = taken();
+                for (times, met) in self.home_causes[at].iter_mut().zip(causes(&database, &query, kind, node)) {
+                    *times += u64::from(met);
+                }
+            }
+            Err(_) => {}
+        }
+    }
+
     pub fn print_met(&self) {
         println!("accepted by call {:?}", self.accepted);
         for (at, name) in ["desk", "panel"].into_iter().enumerate() {
@@ -117,6 +142,10 @@ impl Tally {
             let (kinds, numbers) = (&self.mu_kinds[at][1..], &self.mu_numbers[at][1..]);
             println!("{name}, with a mu: rewrites by kind {kinds:?}, refused by number {numbers:?}");
         }
+        for (at, name) in ["desk", "panel"].into_iter().enumerate() {
+            let (kinds, causes) = (&self.home_kinds[at][1..], &self.home_causes[at]);
+            println!("{name}, stable by origin alone: rewrites by kind {kinds:?}, 13 by cause {CAUSES:?} {causes:?}");
+        }
         println!("filters over a column that holds 0: {}", self.unknown);
         println!("finished runs over a database read from zero bytes: {}", self.empty);
     }
@@ -124,7 +153,8 @@ impl Tally {
     /// A case of its own: every call was accepted and at desk and panel every kind; every number was given, 16 never at the
     /// panel; runs were refused over each limit, and at the panel some finished with the most nodes and rows; filters met 0, and
     /// runs finished over a book of zero bytes. Queries with a `mu` met every call but that of a database and every kind, 20 at
-    /// both, and 3 to 10 at one or the other.
+    /// both, and 3 to 10 at one or the other. Columns came home under every kind that asks for stable ones, and 13 had every
+    /// cause at desk and panel.
     pub fn all_met(&mut self) {
         let accepted = self.accepted.iter().chain(self.kinds.iter().flat_map(|kinds| &kinds[1..]));
         let given = self.numbers[0][1..].iter();
@@ -134,12 +164,17 @@ impl Tally {
         let [at_desk, at_panel] = &self.mu_numbers;
         let mu_numbers =
             (3..=10).all(|number| at_desk[number] + at_panel[number] > 0) && at_desk[20] > 0 && at_panel[20] > 0;
-        let met = accepted.chain(given).chain(refused).chain(mus).chain(mu_kinds).all(|times| *times > 0);
+        let homes = self.home_kinds.iter().flat_map(|kinds| [1, 2, 3, 4, 6].map(|kind| &kinds[kind]));
+        let homes = homes.chain(self.home_causes.iter().flatten());
+        let met = accepted.chain(given).chain(refused).chain(mus).chain(mu_kinds).chain(homes).all(|times| *times > 0);
         let most = self.most[1][..2] == [panel::NODES as u32, panel::ROW_LIMIT];
         if met && mu_numbers && self.numbers[1][16] == 0 && most && self.unknown > 0 && self.empty > 0 {
             self.passed += 1;
         } else {
-            println!("FAILED every call and kind is accepted, every number given, every limit, 0 under filters, an empty book and mu met");
+            println!(
+                "FAILED every call and kind is accepted, every number given, every limit, 0 under filters, an empty book, mu and \
+                columns that come home met"
+            );
             self.failed += 1;
         }
     }

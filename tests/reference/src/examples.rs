@@ -1,5 +1,6 @@
 //! Worked examples: the starred cases, and what the cases of `answer` do not show (exact queries and plans, lent slices).
 
+mod comes_home;
 mod in_one_piece;
 mod on_the_panel;
 
@@ -18,7 +19,8 @@ pub fn examples() -> Vec<Outcome> {
         let result = if holds { Ok(String::new()) } else { Err("does not hold".to_string()) };
         (format!("example: {name}"), result)
     };
-    [starred(), exact_queries(), exact_plans(), lent(), on_the_panel::examples(), in_one_piece::examples()]
+    let base = [starred(), exact_queries(), exact_plans(), lent()].concat();
+    [base, on_the_panel::examples(), in_one_piece::examples(), comes_home::examples()]
         .concat()
         .into_iter()
         .map(outcome)

@@ -11,6 +11,7 @@ pub mod check;
 pub mod damage;
 pub mod examples;
 pub mod meaning;
+pub mod origins;
 pub mod panel;
 pub mod plan;
 pub mod properties;

@@ -1,5 +1,6 @@
 //! Properties of random inputs. Each seed gives one input; a property that fails names its seed.
 
+pub mod comes_home;
 mod desk_and_panel;
 mod first_day;
 mod one_piece;
@@ -18,8 +19,8 @@ use crate::text::{print_answer, print_database, print_query, print_steps, read_d
 use crate::value::{slots_of, Database, Node, Query, Refusal, COLUMNS};
 
 /// What random inputs have met: accepted rewrites by kind, refusals by number, filters over rows with a 0 in their column and
-/// those of them that were pushed into a recursion, and what books of zero bytes, desk and panel, and recursions typed in one
-/// piece have.
+/// those of them that were pushed into a recursion, and what books of zero bytes, desk and panel, recursions typed in one piece
+/// and columns that come home have.
 #[derive(Default)]
 pub struct Coverage {
     pub kinds: [u32; 7],
@@ -28,6 +29,7 @@ pub struct Coverage {
     pub first_day: first_day::Met,
     pub panel: desk_and_panel::Met,
     pub one_piece: one_piece::Met,
+    pub comes_home: comes_home::Met,
 }
 
 impl Coverage {
@@ -36,7 +38,7 @@ impl Coverage {
     }
 
     /// Each kind was accepted and each number given; filters met 0, also in a recursion; what books of zero bytes met, the
-    /// panel's share of it, and that of recursions typed in one piece.
+    /// panel's share of it, and that of recursions typed in one piece and of columns that come home.
     pub fn outcomes(&self) -> Vec<Outcome> {
         let seen = format!("accepted by kind {:?}, refused by number {:?}", &self.kinds[1..], &self.numbers[1..]);
         let full = self.kinds[1..].iter().chain(&self.numbers[1..]).all(|times| *times > 0);
@@ -45,7 +47,8 @@ impl Coverage {
         let seen = format!("{} filters over a 0, {} of them pushed in", self.unknown[0], self.unknown[1]);
         let met = self.unknown.iter().all(|times| *times > 0);
         let unknown = ("filters meet unknown values".to_string(), if met { Ok(seen) } else { Err(seen) });
-        [vec![all, unknown, self.first_day.outcome(), self.panel.outcome()], self.one_piece.outcomes()].concat()
+        let single = vec![all, unknown, self.first_day.outcome(), self.panel.outcome()];
+        [single, self.one_piece.outcomes(), self.comes_home.outcomes()].concat()
     }
 }
 
@@ -53,7 +56,7 @@ impl Coverage {
 type Verdict = Result<bool, String>;
 type Property = fn(&mut Random, &mut Coverage) -> Verdict;
 
-const PROPERTIES: [(&str, Property); 28] = [
+const PROPERTIES: [(&str, Property); 32] = [
     ("a printed query is read back", queries_are_read_back),
     ("a printed database is read back", databases_are_read_back),
     ("a query's refusal names its first bad line", first_bad_line_of_a_query),
@@ -82,6 +85,10 @@ const PROPERTIES: [(&str, Property); 28] = [
     ("4 to 10 of a damaged mu query are those of its split", one_piece::damaged),
     ("a step on a mu query is one on its split, entries past the count staying", one_piece::rewrites),
     ("node limits count lines as typed", one_piece::limits),
+    ("a row has in a column what the variable's row has at its origin", comes_home::values),
+    ("what document 01 calls stable is stable, and its steps are accepted", comes_home::beside_document_01),
+    ("a rewrite above columns that come home keeps meaning and columns", comes_home::rewrites),
+    ("two lists of rewrites leave one answer", comes_home::two_lists),
 ];
 
 /// One test a property, each on the seeds from `seed` on.
@@ -467,34 +474,42 @@ fn filters(random: &mut Random, coverage: &mut Coverage) -> Verdict {
     Ok(true)
 }
 
-/// Every kind at every node.
 fn rewrites(random: &mut Random, coverage: &mut Coverage) -> Verdict {
     let (database, query, checked) = input(random, 40)?;
+    every_rewrite(coverage, &database, &query, &checked)
+}
+
+/// Every kind at every node.
+fn every_rewrite(coverage: &mut Coverage, database: &Database, query: &Query, checked: &Checked) -> Verdict {
     let tables = database.relations();
-    let before = meaning_of(&query, &tables, MOST);
+    let before = meaning_of(query, &tables, MOST);
     let split = checked.root.node;
     for node in 0..=query.count + 1 {
         for kind in 0..=7 {
-            let rewritten = match apply(&checked, &query, kind, node) {
+            let rewritten = match apply(checked, query, kind, node) {
                 Ok(rewritten) => rewritten,
                 Err(refusal) => {
                     coverage.refused(refusal);
                     let known = (12..=15).contains(&refusal.number) && refusal.place == 0;
-                    ensure(known, &format!("{refusal:?}"), &query, &database)?;
+                    ensure(known, &format!("{refusal:?}"), query, database)?;
+                    if refusal.number == 13 {
+                        coverage.comes_home.refused(checked, kind, node);
+                    }
                     continue;
                 }
             };
             coverage.kinds[kind as usize] += 1;
+            coverage.comes_home.accepted(checked, query, kind, node, &tables);
             let step = format!("step={kind},{node}");
             let Ok(after) = check(&rewritten, database.schema()) else {
-                return Err(format!("{step}: not checked any more{}", told(&query, &database)));
+                return Err(format!("{step}: not checked any more{}", told(query, database)));
             };
             let columns = after.columns(&after.root) == checked.columns(&checked.root);
-            ensure(columns, &format!("{step}: other columns"), &query, &database)?;
+            ensure(columns, &format!("{step}: other columns"), query, database)?;
             let kept = rewritten.count as usize == split && rewritten.nodes[split..] == query.nodes[split..];
-            ensure(kept, &format!("{step}: another count or other entries past it"), &query, &database)?;
+            ensure(kept, &format!("{step}: another count or other entries past it"), query, database)?;
             if let (Some(before), Some(after)) = (&before, meaning_of(&rewritten, &tables, MOST)) {
-                ensure(*before == after, &format!("{step}: another meaning"), &query, &database)?;
+                ensure(*before == after, &format!("{step}: another meaning"), query, database)?;
             }
         }
     }
@@ -505,11 +520,12 @@ fn rewrites(random: &mut Random, coverage: &mut Coverage) -> Verdict {
 fn lists_of_rewrites(random: &mut Random, coverage: &mut Coverage) -> Verdict {
     let (database, first, _) = input(random, 40)?;
     let mut held = first.clone();
-    let mut accepted = 0;
+    let (mut accepted, mut by_origin_alone) = (0, false);
     for (kind, node) in random::steps(random, &first).into_iter().chain(random::steps(random, &first)) {
         let other = random::with_columns_of(random, &database);
         match rewrite(&other, &held, kind, node) {
             Ok(rewritten) => {
+                by_origin_alone |= comes_home::by_origin_alone(&other, &held, kind, node);
                 held = rewritten;
                 accepted += 1;
             }
@@ -528,6 +544,7 @@ fn lists_of_rewrites(random: &mut Random, coverage: &mut Coverage) -> Verdict {
     };
     let same = machine.registers[after.root.node - 1] == rows;
     ensure(same, &format!("another meaning as\n{}", shown(&print_query(&held))), &first, &last)?;
+    coverage.comes_home.list(by_origin_alone);
     Ok(accepted > 0)
 }
 

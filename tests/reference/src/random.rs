@@ -380,6 +380,9 @@ impl<'a> Maker<'a> {
         let Some(variable) = self.variable() else {
             return self.leaf();
         };
+        if self.random.once_in(3) {
+            return self.homing(variable, size);
+        }
         if !self.random.once_in(3) {
             if let Some(reach) = self.reach(variable) {
                 return reach;
@@ -456,15 +459,187 @@ impl<'a> Maker<'a> {
         let middle = self.absent(&seed.columns)?;
         let mut step = Piece::leaf(Node::Var(variable), seed.columns.clone()).copy(to, middle).drop(to);
         let hop = self.table(table).copy(from, middle).drop(from);
-        step = match self.random.below(2) {
-            0 => step.pair(Pairing::Join, hop),
-            _ => hop.pair(Pairing::Join, step),
-        };
-        step = step.drop(middle);
+        step = self.joined(step, hop).drop(middle);
         if self.random.once_in(3) {
             step = self.walk(step, variable, &seed.columns);
             step = self.adapt(step, &seed.columns);
         }
+        Some(self.recursion(seed, step, variable))
+    }
+
+    /// A recursion on whose path columns leave their names and come home, or others take their place.
+    fn homing(&mut self, variable: u8, size: usize) -> Piece {
+        let seed = match self.random.pick((0..self.schema.len()).filter(|t| self.schema[*t].len() >= 2)) {
+            Some(table) if !self.random.once_in(4) => self.table(table),
+            _ => self.closed(size / 3),
+        };
+        let columns = seed.columns.clone();
+        let mut step = self.journey(variable, &columns);
+        if self.random.once_in(3) {
+            // The sides agree on some origins and seldom on all.
+            let side = self.journey(variable, &columns);
+            step = match self.random.below(2) {
+                0 => step.pair(Pairing::Union, side),
+                _ => side.pair(Pairing::Union, step),
+            };
+            if self.random.once_in(3) {
+                step = self.trip(step);
+                step = self.adapt(step, &columns);
+            }
+        }
+        self.recursion(seed, step, variable)
+    }
+
+    /// Trips of the columns of a variable, seldom none.
+    fn journey(&mut self, variable: u8, columns: &Columns) -> Piece {
+        let mut path = Piece::leaf(Node::Var(variable), columns.clone());
+        for _ in 0..[0, 1, 1, 1, 1, 2][self.random.below(6)] {
+            path = self.trip(path);
+        }
+        self.adapt(path, columns)
+    }
+
+    /// A column is copied to a working column, dropped and copied back. Now and then it is exchanged with another by way of the
+    /// working column, brought by an operand, or a copy of a column that an operand brings.
+    fn trip(&mut self, path: Piece) -> Piece {
+        let column = self.random.pick(path.columns.iter().copied());
+        let (Some(column), Some(working)) = (column, self.absent(&path.columns)) else {
+            return path;
+        };
+        let other = self.random.pick(path.columns.iter().copied().filter(|c| *c != column));
+        match (self.random.below(12), other) {
+            (0, _) => {
+                let operand = self.having(column);
+                self.joined(path.drop(column), operand)
+            }
+            (1, _) => {
+                let operand = self.having(working);
+                self.joined(path, operand).drop(column).copy(working, column).drop(working)
+            }
+            (2..=3, Some(other)) => {
+                let exchanged = path.copy(column, working).drop(column).copy(other, column).drop(other);
+                exchanged.copy(working, other).drop(working)
+            }
+            _ => {
+                let mut path = path.copy(column, working).drop(column);
+                if !self.random.once_in(4) {
+                    path = self.hop(path, working);
+                }
+                for _ in 0..[0, 0, 1, 1, 2][self.random.below(5)] {
+                    path = self.meanwhile(path, working);
+                }
+                // An operand may have brought the column back.
+                if !path.columns.contains(&column) {
+                    path = path.copy(working, column);
+                }
+                path.drop(working)
+            }
+        }
+    }
+
+    /// One more operator on a path, which keeps the working column.
+    fn meanwhile(&mut self, path: Piece, working: u8) -> Piece {
+        match self.random.below(8) {
+            0 => match self.condition(&path.columns) {
+                Some(condition) => path.filter(condition),
+                None => path,
+            },
+            1 => match self.absent(&path.columns) {
+                Some(further) => path.copy(working, further),
+                None => path,
+            },
+            2 => {
+                let operand = self.having(working);
+                self.joined(path, operand)
+            }
+            3 => {
+                let operand = if self.random.once_in(2) { self.fix(3) } else { self.other(&path.columns) };
+                self.joined(path, operand)
+            }
+            4 => {
+                let operand = self.other(&path.columns);
+                path.pair(Pairing::Except, operand)
+            }
+            _ => self.hop(path, working),
+        }
+    }
+
+    /// A hop as in Reach over two columns of a table, of which the path has the second.
+    fn hop(&mut self, path: Piece, working: u8) -> Piece {
+        let tables = (0..self.schema.len()).filter(|t| self.schema[*t].len() >= 2);
+        let Some(hop) = self.random.pick(tables).map(|table| self.table(table)) else {
+            return path;
+        };
+        let to = self.random.pick(hop.columns.iter().copied().filter(|c| path.columns.contains(c) && *c != working));
+        let from = self.random.pick(hop.columns.iter().copied().filter(|c| Some(*c) != to));
+        let middle = self.absent(&(&path.columns | &hop.columns));
+        let (Some(to), Some(from), Some(middle)) = (to, from, middle) else {
+            return path;
+        };
+        let mut hop = hop.copy(from, middle).drop(from);
+        if !self.random.once_in(4) {
+            hop = self.adapt(hop, &Columns::from([middle, to]));
+        }
+        self.joined(path.copy(to, middle).drop(to), hop).drop(middle)
+    }
+
+    /// A closed piece that has a column.
+    fn having(&mut self, column: u8) -> Piece {
+        let piece = self.leaf();
+        match self.random.pick(piece.columns.iter().copied()) {
+            Some(_) if piece.columns.contains(&column) => piece,
+            Some(from) if !self.random.once_in(3) => piece.copy(from, column).drop(from),
+            _ => self.fact(column),
+        }
+    }
+
+    /// A path joined to a closed piece on either side.
+    fn joined(&mut self, path: Piece, operand: Piece) -> Piece {
+        match self.random.below(2) {
+            0 => path.pair(Pairing::Join, operand),
+            _ => operand.pair(Pairing::Join, path),
+        }
+    }
+
+    /// A recursion over some of a fix's columns, on whose path they come home by way of columns that the fix doesn't have.
+    fn homing_beside(&mut self, fix: &Columns) -> Option<Piece> {
+        let variable = self.variable()?;
+        let shared: Columns = fix.iter().copied().filter(|_| !self.random.once_in(3)).collect();
+        let seed = self.closed(2);
+        let seed = self.adapt(seed, &shared);
+        let mut step = Piece::leaf(Node::Var(variable), shared.clone());
+        for _ in 0..1 + self.random.below(2) {
+            let (column, working) = (self.random.pick(shared.clone())?, self.absent(fix)?);
+            step = step.copy(column, working).drop(column);
+            if self.random.once_in(2) {
+                step = step.filter(self.condition(&Columns::from([working]))?);
+            }
+            step = step.copy(working, column).drop(working);
+        }
+        Some(self.recursion(seed, step, variable))
+    }
+
+    /// A recursion like Reach that shares one column with a fix, which comes home, and has no other that the fix has.
+    fn reach_beside(&mut self, fix: &Columns) -> Option<Piece> {
+        let schema = self.schema;
+        let table =
+            self.random.pick((0..schema.len()).filter(|t| schema[*t].len() >= 2 && !schema[*t].is_disjoint(fix)))?;
+        let shared = self.random.pick(&schema[table] & fix)?;
+        let to = self.random.pick(schema[table].iter().copied().filter(|c| *c != shared))?;
+        let mut taken = fix | &schema[table];
+        let mut free = || {
+            let found = self.random.pick((0..COLUMNS as u8).filter(|c| !taken.contains(c)))?;
+            taken.insert(found);
+            Some(found)
+        };
+        let (own, middle, working) = (free()?, free()?, free()?);
+        let variable = self.variable()?;
+        let hop = self.table(table).copy(to, own);
+        let seed = self.adapt(hop.clone(), &Columns::from([shared, own]));
+        let hop = self.adapt(hop.copy(shared, middle), &Columns::from([middle, own]));
+        let step = Piece::leaf(Node::Var(variable), seed.columns.clone());
+        let step = step.copy(shared, working).drop(shared).copy(own, middle).drop(own);
+        let step = self.joined(step, hop).drop(middle).copy(working, shared).drop(working);
         Some(self.recursion(seed, step, variable))
     }
 
@@ -533,8 +708,13 @@ impl<'a> Maker<'a> {
                 None => fix,
             },
             5 => {
-                let right = self.fix(size);
-                fix.pair(Pairing::Join, right)
+                let beside = match self.random.below(6) {
+                    0 | 1 => self.homing_beside(&fix.columns),
+                    2 => self.reach_beside(&fix.columns),
+                    _ => None,
+                };
+                let right = beside.unwrap_or_else(|| self.fix(size));
+                self.joined(fix, right)
             }
             _ => {
                 // In the step of an outer fix: the fix joined to the outer variable, which has some of its columns.
@@ -545,10 +725,7 @@ impl<'a> Maker<'a> {
                 let seed = self.closed(size / 3);
                 let seed = self.adapt(seed, &columns);
                 let outer = Piece::leaf(Node::Var(variable), columns.clone());
-                let step = match self.random.below(2) {
-                    0 => fix.pair(Pairing::Join, outer),
-                    _ => outer.pair(Pairing::Join, fix),
-                };
+                let step = self.joined(outer, fix);
                 let step = self.adapt(step, &columns);
                 self.recursion(seed, step, variable)
             }
@@ -579,23 +756,22 @@ pub fn node(random: &mut Random) -> Node {
     }
 }
 
+/// The kinds that look at a line, each with the line's node.
+pub fn likely(lines: &[Node]) -> Vec<(u32, u32)> {
+    let kinds = |line: &Node| match line {
+        Node::Filter(_) => &[1][..],
+        Node::Pair(Pairing::Join) => &[2, 3, 6],
+        Node::Pair(Pairing::Except) => &[4],
+        Node::Drop(_) => &[5],
+        _ => &[],
+    };
+    lines.iter().zip(1..).flat_map(|(line, node)| kinds(line).iter().map(move |kind| (*kind, node))).collect()
+}
+
 /// A list of steps, most of them at lines of the split query that a kind looks at, some at such lines as typed.
 pub fn steps(random: &mut Random, query: &Query) -> Vec<(u32, u32)> {
     let lines = if random.once_in(6) { query.lines().to_vec() } else { split_lines(query) };
-    let likely: Vec<(u32, u32)> = lines
-        .iter()
-        .zip(1..)
-        .flat_map(|(line, node)| {
-            let kinds: &[u32] = match line {
-                Node::Filter(_) => &[1],
-                Node::Pair(Pairing::Join) => &[2, 3, 6],
-                Node::Pair(Pairing::Except) => &[4],
-                Node::Drop(_) => &[5],
-                _ => &[],
-            };
-            kinds.iter().map(move |kind| (*kind, node)).collect::<Vec<_>>()
-        })
-        .collect();
+    let likely = likely(&lines);
     (0..random.below(5))
         .map(|_| match random.pick(likely.iter().copied()) {
             Some(step) if !random.once_in(6) => step,

@@ -2,6 +2,7 @@
 
 use crate::algebra::{Columns, Pairing};
 use crate::check::{check, Checked};
+use crate::origins::stable;
 use crate::term::Term;
 use crate::value::{refuse, Database, Node, Query, Refusal};
 
@@ -15,6 +16,14 @@ pub fn rewrite(database: &Database, query: &Query, kind: u32, node: u32) -> Resu
 
 /// One step on a checked query: the rule's lines in its split. Entries past the new count stay as given.
 pub fn apply(checked: &Checked, query: &Query, kind: u32, node: u32) -> Result<Query, Refusal> {
+    apply_by(stable, checked, query, kind, node)
+}
+
+/// Whether columns of a fix are stable.
+pub type Stability = fn(&Checked, &Term, &Columns) -> bool;
+
+/// The same by any notion of stable columns.
+pub fn apply_by(stable: Stability, checked: &Checked, query: &Query, kind: u32, node: u32) -> Result<Query, Refusal> {
     let all = checked.root.nodes();
     let Some(named) = all.iter().find(|term| term.node as u64 == u64::from(node)) else {
         return refuse(12, 0);
@@ -22,7 +31,7 @@ pub fn apply(checked: &Checked, query: &Query, kind: u32, node: u32) -> Result<Q
     let Some(rule) = matched(named, kind) else {
         return refuse(12, 0);
     };
-    rule.test(checked)?;
+    rule.test(stable, checked)?;
     let mut result = query.clone();
     let split = checked.lines();
     let written = rule.lines(&split, named.line);
@@ -55,11 +64,6 @@ fn matched(term: &Term, kind: u32) -> Option<Rule<'_>> {
     }
 }
 
-/// No `drop` on the path names one of the columns.
-fn stable(fix: &Term, columns: &Columns) -> bool {
-    !fix.path().iter().any(|term| matches!(term.line, Node::Drop(a) if columns.contains(&a)))
-}
-
 /// A filter, copy or drop on the path names one of the columns, or a closed operand beside the path has it.
 fn used(checked: &Checked, fix: &Term, columns: &Columns) -> bool {
     let named = fix.path().iter().any(|term| !term.line.names().is_disjoint(columns));
@@ -68,19 +72,19 @@ fn used(checked: &Checked, fix: &Term, columns: &Columns) -> bool {
 
 impl Rule<'_> {
     /// 13, 14, 15 in this order.
-    fn test(&self, checked: &Checked) -> Result<(), Refusal> {
+    fn test(&self, stable: Stability, checked: &Checked) -> Result<(), Refusal> {
         let shared = |a: &Term, b: &Term| checked.columns(a) & checked.columns(b);
         let only = |a: &Term, b: &Term| checked.columns(a) - checked.columns(b);
         let (unstable, taken, open) = match self {
-            Rule::Filter { fix, columns } => (!stable(fix, columns), false, false),
+            Rule::Filter { fix, columns } => (!stable(checked, fix, columns), false, false),
             Rule::JoinLeft { fix, other } | Rule::JoinRight { fix, other } => {
-                (!stable(fix, &shared(fix, other)), used(checked, fix, &only(other, fix)), !other.closed())
+                (!stable(checked, fix, &shared(fix, other)), used(checked, fix, &only(other, fix)), !other.closed())
             }
-            Rule::Except { fix, other } => (!stable(fix, &shared(fix, other)), false, !other.closed()),
+            Rule::Except { fix, other } => (!stable(checked, fix, &shared(fix, other)), false, !other.closed()),
             Rule::Drop { fix, column } => (false, used(checked, fix, &Columns::from([*column])), false),
             Rule::Merge { left, right } => {
                 let both = shared(left, right);
-                let unstable = !stable(left, &both) || !stable(right, &both);
+                let unstable = !stable(checked, left, &both) || !stable(checked, right, &both);
                 let taken = used(checked, right, &only(left, right)) || used(checked, left, &only(right, left));
                 (unstable, taken, false)
             }
