@@ -43,7 +43,7 @@ const ANSWER: usize = COLUMNS * ROWS_TAKEN;
 
 const STORE: usize = COLUMNS * STORED_TAKEN;
 
-fn cause(verdict: Verdict) -> Refusal
+pub fn cause(verdict: Verdict) -> Refusal
     ensures { λ r. ⌜ r ≡ causeOf verdict ⌝ }
 {
     match verdict {

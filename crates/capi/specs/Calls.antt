@@ -17,6 +17,7 @@ use Rattle.rewrite.specs.Rewrite.{rewrite}
 use Rattle.machine.specs.Run.{Answer, begin, runQuery}
 use Rattle.text.specs.Texts.{Table, readNodes, databaseValue}
 use Rattle.text.specs.Replies.{loadTables}
+use Rattle.paths.specs.Sheets.{pathNodes}
 use Rattle.flat.specs.Flat.{queryRoom, queryOf, flatNodes, over, databaseRoom, databaseOf, haveRoom, flatDatabase, runRoom, planRoom}
 
 -- "lent slice short": a slice with less than the layout's room, before anything else is tested
@@ -43,6 +44,10 @@ abbrev pub readFlat : ℕ → List ℕ → List ℕ → Reply (List Node)
 readFlat limit text query = do
   _ ← roomFor queryRoom query
   readNodes columns limit text
+
+-- reading a property path over a flat database into a flat query
+abbrev pub pathFlat : ℕ → List ℕ → List ℕ → List ℕ → List ℕ → Reply (List Node)
+pathFlat limit path database store query = withFlat query database (λ _ d. pathNodes columns limit path d store)
 
 -- reading a book's text into a flat database, its rows into a store
 abbrev pub loadFlat : List ℕ → List ℕ → List ℕ → Reply (List Table)

@@ -15,14 +15,33 @@ use flat::short_slice;
 use flat::status;
 use flat_plans::encode_plan;
 use machine::Outcome;
+use path_queries::read_path;
+use text::ReadQuery;
 ghost use mathlib.Core.Path.{_≡_};
-ghost use Prim.Native.Nat.{min};
-ghost use Rattle.database.specs.Refusals.{verdict};
+ghost use mathlib.Core.List.{List};
+ghost use Prim.Native.Nat.{min, _≤_};
+ghost use lib.ListN.{length};
+ghost use Rattle.database.specs.Refusals.{Reply, verdict};
+ghost use Rattle.query.specs.declared.Node.{Node};
 ghost use Rattle.query.specs.Lines.{nodeLimit};
-ghost use Rattle.text.specs.Replies.{storeAfter};
+ghost use Rattle.text.specs.Replies.{queryReply, storeAfter};
 ghost use Rattle.machine.specs.Run.{workspaceAfter, answerAfter};
-ghost use Rattle.flat.specs.Flat.{status, flatNodes, flatQuery, flatRun, flatSlots};
-ghost use Rattle.capi.specs.Calls.{after, readFlat, loadFlat, flatTables, checkFlat, rewriteFlat, beginFlat, runFlat, compileFlat};
+ghost use Rattle.flat.specs.Flat.{status, queryRoom, flatNodes, flatQuery, flatRun, flatSlots};
+ghost use Rattle.capi.specs.Calls.{after, readFlat, pathFlat, loadFlat, flatTables, checkFlat, rewriteFlat, beginFlat, runFlat, compileFlat};
+
+// What was read, as a flat query; a refusal leaves the slice as it was.
+fn encode_read(read: ReadQuery, query: &mut [u32]) -> u64
+    requires { ⌜ queryRoom ≤ length (now query) ⌝ }
+    ensures { λ r. ⌜ ((x : Reply (List Node)) → read ≡ queryReply x
+        → (r ≡ status (verdict x)) × (now (query .exit) ≡ after flatNodes x (now (query .entry)))) ⌝ }
+{
+    let verdict = read.verdict;
+    let Verdict::Accepted = verdict else {
+        return status(verdict);
+    };
+    encode_query(read.query, query);
+    0
+}
 
 // Reads a sheet's text into a flat query.
 #[no_mangle]
@@ -35,13 +54,28 @@ pub extern "C" fn capeshard_read_query(text: &[u8], limit: usize, query: &mut [u
     if query.len() < QUERY_ROOM {
         return short_slice();
     }
-    let read = reading::read_query(text, limit);
-    let verdict = read.verdict;
-    let Verdict::Accepted = verdict else {
-        return status(verdict);
-    };
-    encode_query(read.query, query);
-    0
+    encode_read(reading::read_query(text, limit), query)
+}
+
+// Reads a property path over a flat database and its store into a flat query.
+#[no_mangle]
+pub extern "C" fn capeshard_read_path(
+    path: &[u8],
+    database: &[u32],
+    store: &[u32],
+    limit: usize,
+    query: &mut [u32],
+) -> u64
+    ensures { λ r. ⌜
+        (r ≡ status (verdict (pathFlat (min limit nodeLimit) (now (path .entry)) (now (database .entry)) (now (store .entry)) (now (query .entry)))))
+        × (now (query .exit) ≡ after flatNodes (pathFlat (min limit nodeLimit) (now (path .entry)) (now (database .entry)) (now (store .entry)) (now (query .entry))) (now (query .entry)))
+        ⌝ }
+{
+    if !have_room(query, database) {
+        return short_slice();
+    }
+    let read = read_path(path, decode_database(database), store, limit);
+    encode_read(read, query)
 }
 
 // Reads a book's text into a flat database, its rows into a store.

@@ -7,11 +7,13 @@ mod panel_calls; // panel_calls.rt: the same at the panel's limits
 pub use calls::capeshard_check;
 pub use calls::capeshard_compile;
 pub use calls::capeshard_read_database;
+pub use calls::capeshard_read_path;
 pub use calls::capeshard_read_query;
 pub use calls::capeshard_rewrite;
 pub use calls::capeshard_run;
 pub use panel_calls::capeshard_panel_check;
 pub use panel_calls::capeshard_panel_compile;
+pub use panel_calls::capeshard_panel_read_path;
 pub use panel_calls::capeshard_panel_read_query;
 pub use panel_calls::capeshard_panel_rewrite;
 pub use panel_calls::capeshard_panel_run;

@@ -1,6 +1,7 @@
 // The panel's calls: the desk's without `limit` and `rows`.
 use super::calls::capeshard_check;
 use super::calls::capeshard_compile;
+use super::calls::capeshard_read_path;
 use super::calls::capeshard_read_query;
 use super::calls::capeshard_rewrite;
 use super::calls::capeshard_run;
@@ -11,7 +12,7 @@ ghost use Rattle.database.specs.Refusals.{verdict};
 ghost use Rattle.machine.specs.Limits.{panelLimits};
 ghost use Rattle.machine.specs.Run.{workspaceAfter, answerAfter};
 ghost use Rattle.flat.specs.Flat.{status, flatNodes, flatQuery, flatRun, flatSlots};
-ghost use Rattle.capi.specs.Calls.{after, readFlat, checkFlat, rewriteFlat, beginFlat, runFlat, compileFlat};
+ghost use Rattle.capi.specs.Calls.{after, readFlat, pathFlat, checkFlat, rewriteFlat, beginFlat, runFlat, compileFlat};
 
 // Reads a sheet's text into a flat query.
 #[no_mangle]
@@ -22,6 +23,22 @@ pub extern "C" fn capeshard_panel_read_query(text: &[u8], query: &mut [u32]) -> 
         ⌝ }
 {
     capeshard_read_query(text, PANEL_NODES, query)
+}
+
+// Reads a property path over a flat database and its store into a flat query.
+#[no_mangle]
+pub extern "C" fn capeshard_panel_read_path(
+    path: &[u8],
+    database: &[u32],
+    store: &[u32],
+    query: &mut [u32],
+) -> u64
+    ensures { λ r. ⌜
+        (r ≡ status (verdict (pathFlat (panelLimits .nodes) (now (path .entry)) (now (database .entry)) (now (store .entry)) (now (query .entry)))))
+        × (now (query .exit) ≡ after flatNodes (pathFlat (panelLimits .nodes) (now (path .entry)) (now (database .entry)) (now (store .entry)) (now (query .entry))) (now (query .entry)))
+        ⌝ }
+{
+    capeshard_read_path(path, database, store, PANEL_NODES, query)
 }
 
 // Checks a flat query over a flat database and its store.

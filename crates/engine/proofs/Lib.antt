@@ -1,6 +1,7 @@
 pub mod Starred
 pub mod RunIsMeaning
 pub mod RewritesInvisible
+pub mod PathAnswers
 pub mod AtReach
 pub mod StepLists
 pub mod LeftMeans

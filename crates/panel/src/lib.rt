@@ -16,6 +16,7 @@ ghost use Rattle.query.specs.Check.{checkOver};
 ghost use Rattle.query.specs.Facts.{checkedValue};
 ghost use Rattle.text.specs.Texts.{readNodes};
 ghost use Rattle.text.specs.Replies.{queryReply};
+ghost use Rattle.paths.specs.Sheets.{pathNodes};
 ghost use Rattle.rewrite.specs.Rewrite.{rewrite, rewritten};
 ghost use Rattle.plan.specs.Plan.{compile};
 ghost use Rattle.compiling.specs.Compiled.{compiledValue};
@@ -41,6 +42,13 @@ pub fn read_query(text: &[u8]) -> ReadQuery
     ensures { λ r. ⌜ r ≡ queryReply (readNodes columns (panelLimits .nodes) (now (text .entry))) ⌝ }
 {
     reading::read_query(text, PANEL_NODES)
+}
+
+// Reads a property path over a stored book: 33 nodes give 2 with place 0.
+pub fn read_path(path: &[u8], database: Database, store: &[u32]) -> ReadQuery
+    ensures { λ r. ⌜ r ≡ queryReply (pathNodes columns (panelLimits .nodes) (now (path .entry)) database (now (store .entry))) ⌝ }
+{
+    path_queries::read_path(path, database, store, PANEL_NODES)
 }
 
 // Checks a query over a stored book: 33 nodes give 2 with place 0.

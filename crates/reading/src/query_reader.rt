@@ -23,7 +23,7 @@ ghost use Rattle.text.specs.Cursors.{Placed};
 ghost use Rattle.reading.specs.QueryReading.{stored, endReply, lineNodes};
 
 // A query without nodes.
-fn no_nodes() -> Query
+pub fn no_nodes() -> Query
     ensures { λ r. ⌜ r ≡ queryValue [] ⌝ }
 {
     Query {
@@ -34,7 +34,7 @@ fn no_nodes() -> Query
     }
 }
 
-fn refused_query(r: Refusal) -> ReadQuery
+pub fn refused_query(r: Refusal) -> ReadQuery
     ensures { λ q. ⌜ q ≡ queryReply (refused r) ⌝ }
 {
     ReadQuery {
@@ -44,7 +44,7 @@ fn refused_query(r: Refusal) -> ReadQuery
 }
 
 // The query with one more node, where there is room for it.
-fn with_node(query: Query, node: Node) -> Query
+pub fn with_node(query: Query, node: Node) -> Query
     ensures { λ r. ⌜ r ≡ stored query node ⌝ }
 {
     let at = query.count;

@@ -15,6 +15,7 @@ pub mod FirstLine
 pub mod Exact
 pub mod Lines
 pub mod Counted
+pub mod QueryValue
 pub mod QueryRoundTrip
 pub mod Filled
 pub mod RowLines

@@ -1,0 +1,16 @@
+-- `put_lines::middle_end` puts the lines where they are wanted.
+use borrow.Author.Needs.{needs}
+use Rattle.path_sheets.specs.Put.{putAll}
+use Rattle.path_sheets.proofs.put_lines.middle_end.Statement.{statement}
+use Rattle.path_sheets.proofs.put_lines.middle_end.Tie as tie
+
+returns : tie.Need-returns
+returns c = rw (c .before .if1 .taken) (c .from-middle .ensures)
+
+returns-2 : tie.Need-returns-2
+unfolding putAll
+returns-2 c = rw (c .if1 .left)
+
+pub middle-end-spec : {M : Type 1} → statement M
+middle-end-spec =
+    tie.close (tie.spec (λ c κs. search needs) returns returns-2)
