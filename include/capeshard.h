@@ -28,6 +28,7 @@ enum {
     CAPESHARD_COLUMNS = 8,
     CAPESHARD_NODES = 128,
     CAPESHARD_TABLES = 16,
+    CAPESHARD_PATH_BYTES = 128,
     CAPESHARD_LINE_ENTRIES = 3,
     CAPESHARD_QUERY_ROOM = 1 + CAPESHARD_LINE_ENTRIES * CAPESHARD_NODES,
     CAPESHARD_TABLE_ENTRIES = 2,
@@ -59,7 +60,7 @@ enum {
  * and whose step the open ones (20 if either is missing). The places of 4 to 10, the nodes of rewrites, plans and registers count in the split query;
  * limit, and the places of 1, 3 and 20, in the query as given. */
 
-/* The number of a refusal (0 of an accepted call) and its place, a line, a node or a table; a place over 4,294,967,295 is given as that. */
+/* The number of a refusal (0 of an accepted call) and its place, a line, a node, a table or a path's byte; a place over 4,294,967,295 is given as that. */
 #define CAPESHARD_NUMBER(status) ((uint32_t)((status) >> 32))
 #define CAPESHARD_PLACE(status) ((uint32_t)((status) & UINT32_C(4294967295)))
 
@@ -78,6 +79,13 @@ enum {
 
 /* Reads a sheet's text (1, 2, 17). limit: the highest node count taken, at most CAPESHARD_NODES. */
 uint64_t capeshard_read_query(const uint8_t *text, size_t text_len, size_t limit, uint32_t *query, size_t query_len);
+
+/* Reads a SPARQL 1.1 property path over a database into a query: |, /, prefix ^, postfix +, parentheses, table numbers 0 to 15 as names, no blanks, 1 to
+ * CAPESHARD_PATH_BYTES bytes. The query means the pairs that the path links, from column 0 to column 1. 21, its place the byte, counted from 1, at which the
+ * text so far begins no path, the one past the most bytes, or the one past the end; then 11; then by the first such name 10 (no such table) or 9 (columns
+ * other than 0 and 1), place 0; then 2, place 0, over limit nodes. limit: as for a sheet. A query that is accepted passes the check over that database. */
+uint64_t capeshard_read_path(const uint8_t *path, size_t path_len, const uint32_t *database, size_t database_len, const uint32_t *store,
+                             size_t store_len, size_t limit, uint32_t *query, size_t query_len);
 
 /* Reads a book's text (11, 17); its rows go into the store from its start on. A text of 0 bytes is a book without tables. */
 uint64_t capeshard_read_database(const uint8_t *text, size_t text_len, uint32_t *database, size_t database_len, uint32_t *store, size_t store_len);
@@ -108,6 +116,10 @@ uint64_t capeshard_run(const uint32_t *query, size_t query_len, const uint32_t *
 
 /* Reads a sheet's text for the panel (1, 2, 17). */
 uint64_t capeshard_panel_read_query(const uint8_t *text, size_t text_len, uint32_t *query, size_t query_len);
+
+/* Reads a property path over a database for the panel (21, 11, 10 or 9, 2). */
+uint64_t capeshard_panel_read_path(const uint8_t *path, size_t path_len, const uint32_t *database, size_t database_len, const uint32_t *store,
+                                   size_t store_len, uint32_t *query, size_t query_len);
 
 /* Checks a query over a database for the panel (11, then 2, 1, 3, 20, 4 to 10). */
 uint64_t capeshard_panel_check(const uint32_t *query, size_t query_len, const uint32_t *database, size_t database_len, const uint32_t *store,

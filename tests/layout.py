@@ -165,50 +165,110 @@ BLOCK = r"```\n((?:(?!```).*\n)*)```\n"
 EXAMPLE = re.compile(
     rf"Case `([\w-]+)`(?:, with the step `([^`\n]*)`)?(?:, Reach |:\n\n{BLOCK}\n)(?:over the book:?\n\n{BLOCK}\n|over an (empty) book )?prints\n\n{BLOCK}"
 )
+PATH_EXAMPLE = re.compile(
+    rf"Path case `([\w-]+)`: the path `([^`\n]*)` (?:over the book\n\n{BLOCK}\n|over an (empty) book )?prints\n\n{BLOCK}"
+)
+SHOWN = {"cases": EXAMPLE, "paths": PATH_EXAMPLE}
 PROVED = re.compile(rf"Proved case of `([\w/.]+)`:\n\n{BLOCK}")
+# within a sentence
+PRINTS = re.compile(r"(?<!path case )`([\w-]+)` prints `([^`\n]*)`")
+PATH_PRINTS = re.compile(r"path case `([\w-]+)`(?:, `([^`\n]*)`,)? prints `([^`\n]*)`")
+PATH_TYPED = r"`([^`\n]*)` \(path case `([\w-]+)`\)"
 
 
 def the_pages_show_the_cases():
-    """Each example of docs/WHY.md and docs/EDITORS.md is a test case, and each section has an example refused and one accepted."""
+    """Each example of docs/WHY.md, docs/EDITORS.md and docs/PATHS.md is a test case, and each section of the first two has an example refused and one
+    accepted; docs/PATHS.md has one for each sign of a path."""
     bad = []
-    for page, last, refused in (("WHY.md", 6, "refused="), ("EDITORS.md", 20, "refused={},")):
+    for page, last, refused, folders in (("WHY.md", 6, "refused=", ["cases"]), ("EDITORS.md", 21, "refused={},", ["cases", "paths"])):
         text = (TOP / "docs" / page).read_text()
-        bad += [f"docs/{page}: {complaint}" for complaint in shown_wrongly(text) + sections_without_examples(text, last, refused)]
-    return bad
+        bad += [f"docs/{page}: {complaint}" for complaint in shown_wrongly(text) + sections_without_examples(text, last, refused, folders)]
+    text = (TOP / "docs" / "PATHS.md").read_text()
+    return bad + [f"docs/PATHS.md: {complaint}" for complaint in shown_wrongly(text) + counted_wrongly(text) + signs_without_examples(text)]
 
 
 def shown_wrongly(text):
-    """What a page shows of a case is in its folder word for word: the sheet, the book, the step and what is printed.
+    """What a page shows of a case is in its folder word for word, and each case that it names is there."""
+    sentences = re.sub(r"(?<=\S)\n *(?=\S)", " ", text)
+    parts = [("cases", *part) for part in sheet_parts(text, sentences)] + [("paths", *part) for part in path_parts(text, sentences)]
+    bad = [f"{name} is not what tests/{folder}/{name}/{file} says" for folder, name, file, part in parts if not shows(part, case_text(name, file, folder))]
+    named = [("paths" if path else "cases", name) for path, name in re.findall(r"([Pp]ath )?case `([^`\n]*)`", sentences)]
+    bad += [f"there is no case {name} in tests/{folder}" for folder, name in named if not case_text(name, "expected.txt", folder)]
+    proved = PROVED.findall(text)
+    bad += [f"{path} does not say {part.strip()}" for path, part in proved if part.strip() not in (TOP / path).read_text()]
+    sheets, paths = (len(example.findall(text)) for example in SHOWN.values())
+    told = len(PRINTS.findall(sentences)) + len(PATH_PRINTS.findall(sentences))
+    heads = {"Case `": sheets, "Path case `": paths, "Proved case of `": len(proved), "prints\n\n```": sheets + paths, " prints `": told}
+    bad += [f"an example is off the form: {head.strip()}" for head, count in heads.items() if sentences.count(head) != count]
+    return bad
+
+
+def sheet_parts(text, sentences):
+    """Files of tests/cases: the sheet, the book, the step and what is printed.
 
     A sheet or a book that isn't shown is that of the case reach, unless the page says that the book is empty; a step that isn't named isn't there.
     """
-    parts = [(name, "expected.txt", printed + "\n") for name, printed in re.findall(r"`([\w-]+)` prints `([^`\n]*)`", text)]
-    found = EXAMPLE.findall(text)
-    for name, step, sheet, book, empty, printed in found:
+    parts = [(name, "expected.txt", printed + "\n") for name, printed in PRINTS.findall(sentences)]
+    for name, step, sheet, book, empty, printed in EXAMPLE.findall(text):
         parts.append((name, "sheet.txt", sheet or case_text("reach", "sheet.txt")))
         parts.append((name, "book.txt", "" if empty else book or case_text("reach", "book.txt")))
         parts.append((name, "steps.txt", step and step + "\n"))
         parts.append((name, "expected.txt", printed))
-    bad = [f"{name} is not what tests/cases/{name}/{file} says" for name, file, part in parts if not shows(part, case_text(name, file))]
-    bad += [f"there is no case {name}" for name in re.findall(r"case `([^`\n]*)`", text) if not case_text(name, "expected.txt")]
-    proved = PROVED.findall(text)
-    bad += [f"{path} does not say {part.strip()}" for path, part in proved if part.strip() not in (TOP / path).read_text()]
-    if len(found) != text.count("Case `") or len(proved) != text.count("Proved case of `"):
-        bad.append("an example is off the form")
+    return parts
+
+
+def path_parts(text, sentences):
+    """Files of tests/paths: the path, the book and what is printed. A book that isn't shown is as in sheet_parts.
+
+    Of two paths with their cases behind them and the word `is` between, both print the same.
+    """
+    parts = []
+    for name, path, book, empty, printed in PATH_EXAMPLE.findall(text):
+        parts.append((name, "path.txt", path))
+        parts.append((name, "book.txt", "" if empty else book or case_text("reach", "book.txt")))
+        parts.append((name, "expected.txt", printed))
+    for name, path, printed in PATH_PRINTS.findall(sentences):
+        parts += [(name, "path.txt", path)] if path else []
+        parts.append((name, "expected.txt", printed + "\n"))
+    parts += [(name, "path.txt", path) for path, name in re.findall(PATH_TYPED, sentences)]
+    for _, name, _, other in re.findall(f"{PATH_TYPED} is {PATH_TYPED}", sentences):
+        parts.append((name, "expected.txt", case_text(other, "expected.txt", "paths")))
+    return parts
+
+
+def counted_wrongly(text):
+    """Each row of the table of nodes has a path, its nodes and its case, whose sheet has so many, or which is refused with 2 if they are over 128."""
+    rows = text.partition("| path | nodes | path case |\n|---|---|---|\n")[2].partition("\n\n")[0].splitlines()
+    bad = [] if rows else ["the table of nodes is missing"]
+    for row in rows:
+        found = re.fullmatch(r"\| `([^`]*)` \| (\d+) \| `([\w-]+)` \|", row)
+        path, nodes, name = found.groups() if found else ("", "0", "")
+        reply = f"guide=1\nnodes={nodes}\n" if int(nodes) <= 128 else "refused=2,0\n"
+        said = case_text(name, "path.txt", "paths") == path.replace("\\|", "|") and case_text(name, "expected.txt", "paths").startswith(reply)
+        bad += [] if said else [f"tests/paths does not say {row}"]
     return bad
 
 
-def sections_without_examples(text, last, refused):
-    """The sections are numbered from 1 on. A number that no case is refused with has two proved cases instead of the examples."""
+def signs_without_examples(text):
+    shown = "".join(path for _, path, *_ in PATH_EXAMPLE.findall(text))
+    return [f"no example has the sign {sign}" for sign in "|/^+()" if sign not in shown]
+
+
+def sections_without_examples(text, last, refused, folders):
+    """The sections are numbered from 1 on. One has an example refused and one accepted of each folder of tests in which its number is given; a number
+    that no case is refused with has two proved cases instead."""
     sections = re.split(r"^## (?:Kind )?(\d+)\. ", text, flags=re.M)[1:]
     numbers = sections[::2]
     bad = [] if numbers == [str(number) for number in range(1, last + 1)] else [f"the sections are not 1 to {last}"]
-    every = [path.read_text() for path in (TOP / "tests" / "cases").glob("*/expected.txt")]
+    every = {folder: [path.read_text() for path in (TOP / "tests" / folder).glob("*/expected.txt")] for folder in folders}
     for number, section in zip(numbers, sections[1::2]):
-        outcomes = [example[-1] for example in EXAMPLE.findall(section)]
         needed = [refused.format(number), "guide="]
-        if begins(every, needed[0]) or len(PROVED.findall(section)) < 2:
-            bad += [f"section {number} has no example that prints {start}" for start in needed if not begins(outcomes, start)]
+        given = [folder for folder in folders if begins(every[folder], needed[0])]
+        if not given and len(PROVED.findall(section)) < 2:
+            bad.append(f"section {number} has neither examples nor two proved cases")
+        for folder in given:
+            outcomes = [example[-1] for example in SHOWN[folder].findall(section)]
+            bad += [f"section {number} has no example of tests/{folder} that prints {start}" for start in needed if not begins(outcomes, start)]
     return bad
 
 
@@ -216,9 +276,9 @@ def begins(texts, start):
     return any(text.startswith(start) for text in texts)
 
 
-def case_text(name, file):
+def case_text(name, file, folder="cases"):
     """A file of a case; one that isn't there is empty."""
-    path = TOP / "tests" / "cases" / name / file
+    path = TOP / "tests" / folder / name / file
     return path.read_bytes().decode("ascii") if path.is_file() else ""
 
 

@@ -9,6 +9,8 @@ pub const COLUMNS: usize = 8;
 pub const NODES: usize = 128;
 /// The most tables of a database.
 pub const TABLES: usize = 16;
+/// The most bytes of a path.
+pub const PATH_BYTES: usize = 128;
 /// The highest row limit of a run.
 pub const ROWS: usize = 4096;
 
@@ -26,6 +28,17 @@ pub mod calls {
         pub fn capeshard_read_query(
             text: *const u8,
             text_len: usize,
+            limit: usize,
+            query: *mut u32,
+            query_len: usize,
+        ) -> u64;
+        pub fn capeshard_read_path(
+            path: *const u8,
+            path_len: usize,
+            database: *const u32,
+            database_len: usize,
+            store: *const u32,
+            store_len: usize,
             limit: usize,
             query: *mut u32,
             query_len: usize,
@@ -87,6 +100,16 @@ pub mod calls {
             told_len: usize,
         ) -> u64;
         pub fn capeshard_panel_read_query(text: *const u8, text_len: usize, query: *mut u32, query_len: usize) -> u64;
+        pub fn capeshard_panel_read_path(
+            path: *const u8,
+            path_len: usize,
+            database: *const u32,
+            database_len: usize,
+            store: *const u32,
+            store_len: usize,
+            query: *mut u32,
+            query_len: usize,
+        ) -> u64;
         pub fn capeshard_panel_check(
             query: *const u32,
             query_len: usize,
@@ -133,7 +156,7 @@ pub mod calls {
     }
 }
 
-/// Why a call refused: document 01's number, and the line, node or table at fault, or 0.
+/// Why a call refused: the number of documents 01 and 02, and the line, node, table or byte at fault, or 0.
 #[derive(Clone, Copy, Debug, PartialEq, Eq)]
 pub struct Refusal {
     pub number: u32,
@@ -423,6 +446,27 @@ impl Query {
         // SAFETY: each pointer and length is that of one slice, and the written one is borrowed here alone.
         reply(unsafe {
             calls::capeshard_read_query(text.as_ptr(), text.len(), NODES, query.flat.as_mut_ptr(), query.flat.len())
+        })?;
+        Ok(query)
+    }
+
+    /// Reads a SPARQL 1.1 property path over a database (21 with the byte, 11, then 10 or 9 by the first such name, then 2). The query means the pairs that
+    /// the path links, from column 0 to column 1, and passes the check over that database.
+    pub fn read_path(path: &[u8], database: &Database) -> Result<Query, Refusal> {
+        let mut query = Query::blank();
+        // SAFETY: each pointer and length is that of one slice, and the written one is borrowed here alone.
+        reply(unsafe {
+            calls::capeshard_read_path(
+                path.as_ptr(),
+                path.len(),
+                database.flat.as_ptr(),
+                database.flat.len(),
+                database.store.as_ptr(),
+                database.store.len(),
+                NODES,
+                query.flat.as_mut_ptr(),
+                query.flat.len(),
+            )
         })?;
         Ok(query)
     }

@@ -20,6 +20,25 @@ pub fn read(text: &[u8]) -> Result<Query, Refusal> {
     Ok(query)
 }
 
+/// Reads a SPARQL 1.1 property path over a database (21 with the byte, 11, then 10 or 9 by the first such name, then 2).
+pub fn read_path(path: &[u8], database: &Database) -> Result<Query, Refusal> {
+    let mut query = Query::blank();
+    // SAFETY: each pointer and length is that of one slice, and the written one is borrowed here alone.
+    reply(unsafe {
+        calls::capeshard_panel_read_path(
+            path.as_ptr(),
+            path.len(),
+            database.flat.as_ptr(),
+            database.flat.len(),
+            database.store.as_ptr(),
+            database.store.len(),
+            query.flat.as_mut_ptr(),
+            query.flat.len(),
+        )
+    })?;
+    Ok(query)
+}
+
 /// Checks a query over a database (11, then 2, 1, 3, 20, 4 to 10).
 pub fn check(query: &Query, database: &Database) -> Result<(), Refusal> {
     // SAFETY: each pointer and length is that of one slice, and nothing is written.

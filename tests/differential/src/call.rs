@@ -7,6 +7,7 @@ use crate::slices::{
 use capeshard::calls;
 use reference::check::check;
 use reference::panel;
+use reference::paths::read_path;
 use reference::rewrite::rewrite;
 use reference::run::{run, Answer};
 use reference::text::{read_database, read_query};
@@ -15,12 +16,14 @@ use reference::value::{refuse, Database, Query, Refusal, NODES};
 #[derive(Clone, Copy, Debug)]
 pub enum Call {
     ReadQuery { limit: usize },
+    ReadPath { limit: usize },
     ReadDatabase,
     Check { limit: usize },
     Rewrite { limit: usize, kind: u32, node: u32 },
     Compile { limit: usize },
     Run { limit: usize, rows: usize, budget: u32 },
     PanelReadQuery,
+    PanelReadPath,
     PanelCheck,
     PanelRewrite { kind: u32, node: u32 },
     PanelCompile,
@@ -59,6 +62,17 @@ impl Call {
                 Call::ReadQuery { limit } => {
                     calls::capeshard_read_query(text.as_ptr(), text.len(), limit, query.0, query.1)
                 }
+                Call::ReadPath { limit } => calls::capeshard_read_path(
+                    text.as_ptr(),
+                    text.len(),
+                    database.0,
+                    database.1,
+                    store.0,
+                    store.1,
+                    limit,
+                    query.0,
+                    query.1,
+                ),
                 Call::ReadDatabase => {
                     calls::capeshard_read_database(text.as_ptr(), text.len(), database.0, database.1, store.0, store.1)
                 }
@@ -89,6 +103,16 @@ impl Call {
                     told.1,
                 ),
                 Call::PanelReadQuery => calls::capeshard_panel_read_query(text.as_ptr(), text.len(), query.0, query.1),
+                Call::PanelReadPath => calls::capeshard_panel_read_path(
+                    text.as_ptr(),
+                    text.len(),
+                    database.0,
+                    database.1,
+                    store.0,
+                    store.1,
+                    query.0,
+                    query.1,
+                ),
                 Call::PanelCheck => {
                     calls::capeshard_panel_check(query.0, query.1, database.0, database.1, store.0, store.1)
                 }
@@ -131,6 +155,7 @@ impl Call {
         let either = query || lent.database.len() < DATABASE_ROOM;
         match self {
             Call::ReadQuery { .. } | Call::PanelReadQuery => query,
+            Call::ReadPath { .. } | Call::PanelReadPath => either,
             Call::ReadDatabase => lent.database.len() < DATABASE_ROOM,
             Call::Check { .. } | Call::Rewrite { .. } | Call::PanelCheck | Call::PanelRewrite { .. } => either,
             Call::Compile { .. } | Call::PanelCompile => either || lent.plan.len() < PLAN_ROOM,
@@ -145,6 +170,10 @@ impl Call {
         }
         match self {
             Call::ReadQuery { limit } => put_query(read_query(&lent.text, limit.min(NODES))?, lent),
+            Call::ReadPath { limit } => {
+                let database = database_of(&lent.database, &lent.store);
+                put_query(read_path(&lent.text, &database, limit.min(NODES))?, lent);
+            }
             Call::ReadDatabase => {
                 let database = read_database(&lent.text, &lent.store)?;
                 over(&flat_database(&database), &mut lent.database);
@@ -171,6 +200,10 @@ impl Call {
                 put_told(run(&database, &query, rows, budget, &mut lent.workspace, &mut lent.answer)?, lent);
             }
             Call::PanelReadQuery => put_query(panel::read(&lent.text)?, lent),
+            Call::PanelReadPath => {
+                let database = database_of(&lent.database, &lent.store);
+                put_query(panel::read_path(&lent.text, &database)?, lent);
+            }
             Call::PanelCheck => {
                 let (database, query) = given(lent, NODES);
                 panel::check(&database, &query)?;

@@ -29,7 +29,7 @@ impl At {
         }
     }
 
-    fn check(self, random: &mut Random, nodes: usize) -> Call {
+    pub fn check(self, random: &mut Random, nodes: usize) -> Call {
         match self {
             At::Desk => Call::Check { limit: limit(random, nodes) },
             At::Panel => Call::PanelCheck,
@@ -171,7 +171,7 @@ fn large(random: &mut Random) -> Database {
 }
 
 /// A lent slice of so many entries or a few more or, seldom, less, with anything behind what it begins with.
-fn lent(random: &mut Random, begins: &[u32], room: usize) -> Vec<u32> {
+pub fn lent(random: &mut Random, begins: &[u32], room: usize) -> Vec<u32> {
     let length = match random.below(40) {
         0 => room - 1,
         1 => random.below(room),
@@ -268,7 +268,7 @@ fn over(random: &mut Random, query: &Query, database: &Database) -> Slices {
 }
 
 /// Puts numbers at and past the ends of ranges into the first entries of a slice.
-fn harm(random: &mut Random, slice: &mut [u32], used: usize) {
+pub fn harm(random: &mut Random, slice: &mut [u32], used: usize) {
     const NUMBERS: [u32; 18] = [0, 1, 2, 5, 7, 8, 13, 14, 15, 16, 32, 33, 128, 129, 255, 256, 1 << 31, u32::MAX];
     for _ in 0..1 + random.below(3) {
         let at = if random.once_in(8) { 0 } else { random.below(used.min(slice.len()).max(1)) };
@@ -390,7 +390,7 @@ fn again(random: &mut Random, query: &Query, database: &Database) -> Query {
 }
 
 /// Row limit, budget and slices at, below and above what the run needs.
-fn run(random: &mut Random, at: At, query: &Query, database: &Database, slices: Slices) -> Input {
+pub fn run(random: &mut Random, at: At, query: &Query, database: &Database, slices: Slices) -> Input {
     let plan = check(query, database.schema()).ok().map(|checked| plan(&checked.root));
     let free = plan.as_ref().and_then(|plan| execute(plan, &database.relations(), FREE.0, FREE.1).ok());
     let (peak, ran) = free.as_ref().map_or((6, 20), |free| (free.peak, free.ran));

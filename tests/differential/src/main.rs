@@ -1,30 +1,41 @@
 //! Compares the engine with the reference, call by call: `differential SEED COUNT` on the inputs of COUNT seeds from SEED
-//! on. A case is one call: the reply and all lent slices afterwards. A difference prints its seed and both sides. Then texts
-//! of at most one byte, and the rows and lines run of each workload of bench/. The last line is 'N passed, M failed'.
+//! on. A case is one call: the reply and all lent slices afterwards, or the rows of a path's run beside what the path links. A
+//! difference prints its seed and both sides. Then texts of at most one byte, and the rows and lines run of each workload of
+//! bench/. The last line is 'N passed, M failed'.
 
 mod at;
 mod call;
 mod inputs;
 mod measured;
+mod paths;
 mod slices;
 mod tally;
 mod wrapper;
 
+use call::Call;
 use inputs::Input;
 use reference::random::Random;
+use slices::Slices;
 use std::process::ExitCode;
 use tally::Tally;
 
 const SEED: u64 = 1;
 const COUNT: u64 = 1500;
 
+/// One case: the slices that the engine left, if both sides accept.
+fn compared(tally: &mut Tally, call: Call, before: &Slices) -> Option<Slices> {
+    let (mut due, mut left) = (before.clone(), before.clone());
+    let expected = call.by_reference(&mut due);
+    let replied = call.by_engine(&mut left);
+    tally.meet(call, expected, before, &due);
+    let found = (replied, left);
+    tally.case(|| format!("{call:?} of {before:?}"), &(expected, due), &found);
+    (expected.is_ok() && replied.is_ok()).then_some(found.1)
+}
+
 fn calls(tally: &mut Tally, inputs: Vec<Input>) {
     for (call, before) in inputs {
-        let (mut due, mut left) = (before.clone(), before.clone());
-        let expected = call.by_reference(&mut due);
-        let replied = call.by_engine(&mut left);
-        tally.meet(call, expected, &before, &due);
-        tally.case(|| format!("{call:?} of {before:?}"), &(expected, due), &(replied, left));
+        compared(tally, call, &before);
     }
 }
 
@@ -43,6 +54,7 @@ fn main() -> ExitCode {
     for seed in seed..seed.saturating_add(count) {
         tally.seed = seed;
         calls(&mut tally, inputs::inputs(&mut Random::new(seed)));
+        paths::cases(&mut Random::new(seed), &mut tally);
         wrapper::cases(&mut Random::new(seed), &mut tally);
     }
     calls(&mut tally, inputs::shortest(&mut Random::new(seed)));

@@ -1,6 +1,7 @@
 //! The cases passed and failed, and what the calls met.
 
 use crate::call::Call;
+use crate::paths;
 use crate::slices::{database_of, has_mu, query_of, Slices};
 use reference::panel;
 use reference::properties::comes_home::{by_origin_alone, causes, CAUSES};
@@ -11,10 +12,10 @@ use std::fmt::Debug;
 const SHOWN: u64 = 20;
 
 /// Calls of the header that are made at the desk; those after them are the panel's.
-const DESK_CALLS: usize = 6;
-const CALLS: usize = 11;
-/// The one call that takes no query.
-const READS_DATABASE: usize = 1;
+const DESK_CALLS: usize = 7;
+const CALLS: usize = 13;
+/// The calls that meet no `mu`: those that read a path or a database.
+const WITHOUT_MU: [usize; 3] = [1, 2, 8];
 
 #[derive(Default)]
 pub struct Tally {
@@ -25,13 +26,13 @@ pub struct Tally {
     accepted: [u64; CALLS],
     /// At desk and panel: accepted rewrites by kind, refusals by number, and those of runs.
     kinds: [[u64; 7]; 2],
-    numbers: [[u64; 21]; 2],
-    runs: [[u64; 21]; 2],
+    numbers: [[u64; 22]; 2],
+    runs: [[u64; 22]; 2],
     /// Accepted calls on queries with a `mu` in the header's order, and at desk and panel the accepted rewrites of such by kind and
     /// their refusals by number.
     mus: [u64; CALLS],
     mu_kinds: [[u64; 7]; 2],
-    mu_numbers: [[u64; 21]; 2],
+    mu_numbers: [[u64; 22]; 2],
     /// At desk and panel: rewrites by kind that are accepted though a `drop` names a column that must be stable, and refusals with
     /// 13 by what the column comes from.
     home_kinds: [[u64; 7]; 2],
@@ -42,6 +43,7 @@ pub struct Tally {
     pub unknown: u64,
     /// Finished runs over a database that was read from zero bytes.
     pub empty: u64,
+    pub paths: paths::Met,
 }
 
 impl Tally {
@@ -63,21 +65,27 @@ impl Tally {
     pub fn meet(&mut self, call: Call, reply: Result<(), Refusal>, given: &Slices, slices: &Slices) {
         let sort = match call {
             Call::ReadQuery { .. } => 0,
-            Call::ReadDatabase => 1,
-            Call::Check { .. } => 2,
-            Call::Rewrite { .. } => 3,
-            Call::Compile { .. } => 4,
-            Call::Run { .. } => 5,
-            Call::PanelReadQuery => 6,
-            Call::PanelCheck => 7,
-            Call::PanelRewrite { .. } => 8,
-            Call::PanelCompile => 9,
-            Call::PanelRun { .. } => 10,
+            Call::ReadPath { .. } => 1,
+            Call::ReadDatabase => 2,
+            Call::Check { .. } => 3,
+            Call::Rewrite { .. } => 4,
+            Call::Compile { .. } => 5,
+            Call::Run { .. } => 6,
+            Call::PanelReadQuery => 7,
+            Call::PanelReadPath => 8,
+            Call::PanelCheck => 9,
+            Call::PanelRewrite { .. } => 10,
+            Call::PanelCompile => 11,
+            Call::PanelRun { .. } => 12,
         };
         let at = usize::from(sort >= DESK_CALLS);
         match reply {
             Err(refusal) => self.numbers[at][refusal.number as usize] += 1,
             Ok(()) => self.accepted[sort] += 1,
+        }
+        if let Call::ReadPath { .. } | Call::PanelReadPath = call {
+            self.paths.meet(at, call, reply, &given.text);
+            return;
         }
         let reads = matches!(call, Call::ReadQuery { .. } | Call::PanelReadQuery);
         if has_mu(if reads { &slices.query } else { &given.query }) {
@@ -148,18 +156,19 @@ impl Tally {
         }
         println!("filters over a column that holds 0: {}", self.unknown);
         println!("finished runs over a database read from zero bytes: {}", self.empty);
+        self.paths.print();
     }
 
     /// A case of its own: every call was accepted and at desk and panel every kind; every number was given, 16 never at the
     /// panel; runs were refused over each limit, and at the panel some finished with the most nodes and rows; filters met 0, and
-    /// runs finished over a book of zero bytes. Queries with a `mu` met every call but that of a database and every kind, 20 at
-    /// both, and 3 to 10 at one or the other. Columns came home under every kind that asks for stable ones, and 13 had every
-    /// cause at desk and panel.
+    /// runs finished over a book of zero bytes. Queries with a `mu` met every call but those that read a path or a database and
+    /// every kind, 20 at both, and 3 to 10 at one or the other. Columns came home under every kind that asks for stable ones, and
+    /// 13 had every cause at desk and panel. Paths met what they had to.
     pub fn all_met(&mut self) {
         let accepted = self.accepted.iter().chain(self.kinds.iter().flat_map(|kinds| &kinds[1..]));
         let given = self.numbers[0][1..].iter();
         let refused = self.runs.iter().flat_map(|runs| [2, 17, 18, 19].map(|number| &runs[number]));
-        let mus = self.mus.iter().enumerate().filter(|(sort, _)| *sort != READS_DATABASE).map(|(_, times)| times);
+        let mus = self.mus.iter().enumerate().filter(|(sort, _)| !WITHOUT_MU.contains(sort)).map(|(_, times)| times);
         let mu_kinds = self.mu_kinds.iter().flat_map(|kinds| &kinds[1..]);
         let [at_desk, at_panel] = &self.mu_numbers;
         let mu_numbers =
@@ -168,12 +177,13 @@ impl Tally {
         let homes = homes.chain(self.home_causes.iter().flatten());
         let met = accepted.chain(given).chain(refused).chain(mus).chain(mu_kinds).chain(homes).all(|times| *times > 0);
         let most = self.most[1][..2] == [panel::NODES as u32, panel::ROW_LIMIT];
-        if met && mu_numbers && self.numbers[1][16] == 0 && most && self.unknown > 0 && self.empty > 0 {
+        let zeros = self.unknown > 0 && self.empty > 0;
+        if met && mu_numbers && self.numbers[1][16] == 0 && most && zeros && self.paths.all_met() {
             self.passed += 1;
         } else {
             println!(
-                "FAILED every call and kind is accepted, every number given, every limit, 0 under filters, an empty book, mu and \
-                columns that come home met"
+                "FAILED every call and kind is accepted, every number given, every limit, 0 under filters, an empty book, mu, \
+                columns that come home and paths met"
             );
             self.failed += 1;
         }

@@ -2,6 +2,7 @@
 
 use crate::at::At;
 use crate::inputs::{for_panel, shortest_texts};
+use crate::paths::texts_of_paths;
 use crate::slices::operand_columns;
 use crate::tally::Tally;
 use capeshard::{Answer, Line, Op, Operands, PlanLine, Table};
@@ -9,6 +10,7 @@ use reference::algebra::{Columns, Condition, Pairing};
 use reference::check::{check, Checked};
 use reference::damage;
 use reference::panel;
+use reference::paths::read_path;
 use reference::plan::{self, plan, Operation};
 use reference::random::{self, Random};
 use reference::rewrite::rewrite;
@@ -152,6 +154,9 @@ pub fn cases(random: &mut Random, tally: &mut Tally) {
     for query in filtered(random, tally, &database, &query) {
         values(random, tally, &database, query);
     }
+    if random.once_in(3) {
+        paths(random, tally);
+    }
 }
 
 /// Row limit of the run that tells what a query's columns hold.
@@ -203,6 +208,30 @@ fn reads(tally: &mut Tally, sheet: &[u8], book: &[u8]) {
     let expected = read_database(book, &store).map(|_| ());
     let found = capeshard::Database::read(book).map(|_| ()).map_err(given);
     tally.case(|| format!("Database::read {:?}", shown(book)), &expected, &found);
+}
+
+/// Paths through desk and panel, and one of their queries as any other.
+fn paths(random: &mut Random, tally: &mut Tally) {
+    let mut database = random::paths::database(random);
+    if random.once_in(6) {
+        database = exchanged(random, &database);
+    }
+    let stored = capeshard::Database::of(&tables_of(&database)).expect("the tables have a place");
+    let at = At::BOTH[random.below(2)];
+    let mut accepted = Vec::new();
+    for text in texts_of_paths(random, at, database.schema()) {
+        let (expected, found) = match at {
+            At::Desk => (read_path(&text, &database, NODES), capeshard::Query::read_path(&text, &stored)),
+            At::Panel => (panel::read_path(&text, &database), capeshard::panel::read_path(&text, &stored)),
+        };
+        let lines = expected.as_ref().map(lines_of).map_err(|refusal| *refusal);
+        let found = found.map(|query| query.lines()).map_err(given);
+        tally.case(|| format!("{at:?}: read the path {:?} over {database:?}", shown(&text)), &lines, &found);
+        accepted.extend(expected);
+    }
+    if let Some(query) = random.pick(accepted) {
+        values(random, tally, &database, query);
+    }
 }
 
 /// One query through desk and panel; each step is made at one of them. Half of the databases without tables are read from zero

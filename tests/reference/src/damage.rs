@@ -1,4 +1,4 @@
-//! Damaged inputs: queries, texts and stored databases with a few edits.
+//! Damaged inputs: queries, texts, paths and stored databases with a few edits.
 
 use crate::algebra::{Condition, Pairing};
 use crate::random::{self, Random};
@@ -194,6 +194,35 @@ pub fn text(random: &mut Random, text: &[u8]) -> Vec<u8> {
                 if let Some(digit) = random.pick((0..text.len()).filter(|i| text[*i].is_ascii_digit())) {
                     let number = NUMBERS[random.below(NUMBERS.len())].as_bytes();
                     text.splice(digit..digit + 1, number.iter().copied());
+                }
+            }
+        }
+    }
+    text
+}
+
+/// A path's text with one or two edits of bytes or names.
+pub fn path(random: &mut Random, text: &[u8]) -> Vec<u8> {
+    const NAMES: [&str; 9] = ["", "00", "01", "9", "10", "15", "16", "100", "99"];
+    const BYTES: &[u8] = b"0123456789||//^^++(()) \n*?!a\0\x80";
+    let mut text = text.to_vec();
+    for _ in 0..1 + random.below(2) {
+        let at = random.below(text.len() + 1);
+        let byte = BYTES[random.below(BYTES.len())];
+        match random.below(8) {
+            0 => text.insert(at, byte),
+            1 if at < text.len() => {
+                text.remove(at);
+            }
+            2 if at < text.len() => text[at] = byte,
+            3 => text.truncate(at),
+            4 => text.push(byte),
+            5 if at < text.len() => text.insert(at, text[at]),
+            6 if at + 1 < text.len() => text.swap(at, at + 1),
+            _ => {
+                if let Some(digit) = random.pick((0..text.len()).filter(|i| text[*i].is_ascii_digit())) {
+                    let name = NAMES[random.below(NAMES.len())].as_bytes();
+                    text.splice(digit..digit + 1, name.iter().copied());
                 }
             }
         }

@@ -3,6 +3,7 @@
 mod comes_home;
 mod in_one_piece;
 mod on_the_panel;
+mod paths;
 
 use crate::algebra::{Columns, Pairing, Relation};
 use crate::answer::{BUDGET, ROW_LIMIT};
@@ -20,7 +21,7 @@ pub fn examples() -> Vec<Outcome> {
         (format!("example: {name}"), result)
     };
     let base = [starred(), exact_queries(), exact_plans(), lent()].concat();
-    [base, on_the_panel::examples(), in_one_piece::examples(), comes_home::examples()]
+    [base, on_the_panel::examples(), in_one_piece::examples(), comes_home::examples(), paths::examples()]
         .concat()
         .into_iter()
         .map(outcome)

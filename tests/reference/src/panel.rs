@@ -2,6 +2,7 @@
 //! limit, so 16 never arises.
 
 use crate::check::{self, Checked};
+use crate::paths;
 use crate::plan::{plan, Plan};
 use crate::rewrite;
 use crate::run::{self, workspace_entries, Answer};
@@ -18,6 +19,11 @@ pub const WORKSPACE: usize = workspace_entries(NODES + FIXES, ROW_LIMIT);
 /// 1 at the first bad line, then 2 at line 2.
 pub fn read(text: &[u8]) -> Result<Query, Refusal> {
     read_query(text, NODES)
+}
+
+/// 21, then 11, then 10 or 9, then 2.
+pub fn read_path(text: &[u8], database: &Database) -> Result<Query, Refusal> {
+    paths::read_path(text, database, NODES)
 }
 
 /// 11, then 2 with place 0.

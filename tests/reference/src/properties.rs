@@ -4,6 +4,7 @@ pub mod comes_home;
 mod desk_and_panel;
 mod first_day;
 mod one_piece;
+mod paths;
 
 use crate::algebra::{Condition, Relation};
 use crate::answer::{answer, FILE_BYTES};
@@ -19,17 +20,18 @@ use crate::text::{print_answer, print_database, print_query, print_steps, read_d
 use crate::value::{slots_of, Database, Node, Query, Refusal, COLUMNS};
 
 /// What random inputs have met: accepted rewrites by kind, refusals by number, filters over rows with a 0 in their column and
-/// those of them that were pushed into a recursion, and what books of zero bytes, desk and panel, recursions typed in one piece
-/// and columns that come home have.
+/// those of them that were pushed into a recursion, and what books of zero bytes, desk and panel, recursions typed in one piece,
+/// columns that come home and property paths have.
 #[derive(Default)]
 pub struct Coverage {
     pub kinds: [u32; 7],
-    pub numbers: [u32; 21],
+    pub numbers: [u32; 22],
     pub unknown: [u32; 2],
     pub first_day: first_day::Met,
     pub panel: desk_and_panel::Met,
     pub one_piece: one_piece::Met,
     pub comes_home: comes_home::Met,
+    pub paths: paths::Met,
 }
 
 impl Coverage {
@@ -38,7 +40,7 @@ impl Coverage {
     }
 
     /// Each kind was accepted and each number given; filters met 0, also in a recursion; what books of zero bytes met, the
-    /// panel's share of it, and that of recursions typed in one piece and of columns that come home.
+    /// panel's share of it, and that of recursions typed in one piece, of columns that come home and of property paths.
     pub fn outcomes(&self) -> Vec<Outcome> {
         let seen = format!("accepted by kind {:?}, refused by number {:?}", &self.kinds[1..], &self.numbers[1..]);
         let full = self.kinds[1..].iter().chain(&self.numbers[1..]).all(|times| *times > 0);
@@ -48,7 +50,7 @@ impl Coverage {
         let met = self.unknown.iter().all(|times| *times > 0);
         let unknown = ("filters meet unknown values".to_string(), if met { Ok(seen) } else { Err(seen) });
         let single = vec![all, unknown, self.first_day.outcome(), self.panel.outcome()];
-        [single, self.one_piece.outcomes(), self.comes_home.outcomes()].concat()
+        [single, self.one_piece.outcomes(), self.comes_home.outcomes(), self.paths.outcomes()].concat()
     }
 }
 
@@ -56,7 +58,7 @@ impl Coverage {
 type Verdict = Result<bool, String>;
 type Property = fn(&mut Random, &mut Coverage) -> Verdict;
 
-const PROPERTIES: [(&str, Property); 32] = [
+const PROPERTIES: [(&str, Property); 39] = [
     ("a printed query is read back", queries_are_read_back),
     ("a printed database is read back", databases_are_read_back),
     ("a query's refusal names its first bad line", first_bad_line_of_a_query),
@@ -89,6 +91,13 @@ const PROPERTIES: [(&str, Property); 32] = [
     ("what document 01 calls stable is stable, and its steps are accepted", comes_home::beside_document_01),
     ("a rewrite above columns that come home keeps meaning and columns", comes_home::rewrites),
     ("two lists of rewrites leave one answer", comes_home::two_lists),
+    ("a printed path is read back, with needless parentheses too", paths::printed),
+    ("21 names the first byte at which a text begins no path", paths::places),
+    ("a path has at most 128 bytes", paths::lengths),
+    ("a path's sheet is checked and means what the path links", paths::sheets),
+    ("a path's refusals come in order at desk and panel", paths::refusals),
+    ("a path's nodes are counted without being written", paths::limits),
+    ("path prints the sheet or the first refusal", paths::programs),
 ];
 
 /// One test a property, each on the seeds from `seed` on.

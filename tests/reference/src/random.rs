@@ -1,4 +1,6 @@
-//! Random inputs from fixed seeds: databases, queries that are checked by construction, steps.
+//! Random inputs from fixed seeds: databases, queries that are checked by construction, steps, property paths.
+
+pub mod paths;
 
 use crate::algebra::{Columns, Condition, Pairing, Relation, Row};
 use crate::split::split;

@@ -1,7 +1,8 @@
-//! The tests that the program selfcheck and `cargo test` run: the folders of tests/cases, tests/readings and tests/steps here, beside the
-//! worked examples and the properties of random inputs.
+//! The tests that the program selfcheck and `cargo test` run: the folders of tests/cases, tests/readings, tests/steps and tests/paths
+//! here, beside the worked examples and the properties of random inputs.
 
 use crate::answer::answer;
+use crate::path::path;
 use crate::reading::reading;
 use crate::steps::steps;
 use std::path::{Path, PathBuf};
@@ -22,6 +23,11 @@ pub fn reading_folder() -> PathBuf {
 /// The folder tests/steps beside this package.
 pub fn step_folder() -> PathBuf {
     Path::new(env!("CARGO_MANIFEST_DIR")).join("../steps")
+}
+
+/// The folder tests/paths beside this package.
+pub fn path_folder() -> PathBuf {
+    Path::new(env!("CARGO_MANIFEST_DIR")).join("../paths")
 }
 
 /// One test a folder: `answer` prints its expected.txt.
@@ -55,6 +61,17 @@ pub fn rewritings(folder: &Path) -> Vec<Outcome> {
 pub fn print_steps_of(folder: &Path) -> Vec<u8> {
     let file = |name: &str| std::fs::read(folder.join(name)).unwrap_or_default();
     steps(&file("database.txt"), &file("query.txt"), &file("steps.txt"))
+}
+
+/// One test a folder: `path` prints its expected.txt.
+pub fn paths(folder: &Path) -> Vec<Outcome> {
+    folders(folder, "path", print_path_of)
+}
+
+/// What `path` prints in a folder of tests/paths. A missing file counts as empty.
+pub fn print_path_of(folder: &Path) -> Vec<u8> {
+    let file = |name: &str| std::fs::read(folder.join(name)).unwrap_or_default();
+    path(&file("path.txt"), &file("book.txt"))
 }
 
 fn folders(folder: &Path, kind: &str, printed: impl Fn(&Path) -> Vec<u8>) -> Vec<Outcome> {

@@ -2,7 +2,9 @@
 
 use reference::examples::examples;
 use reference::properties::{properties, Coverage};
-use reference::selfcheck::{case_folder, cases, reading_folder, readings, report, rewritings, step_folder};
+use reference::selfcheck::{
+    case_folder, cases, path_folder, paths, reading_folder, readings, report, rewritings, step_folder,
+};
 
 #[test]
 fn every_case_is_answered() {
@@ -21,6 +23,13 @@ fn every_reading_is_read() {
 #[test]
 fn every_list_of_steps_is_applied() {
     let outcomes = rewritings(&step_folder());
+    assert!(!outcomes.is_empty());
+    assert_eq!(report(&outcomes).1, 0);
+}
+
+#[test]
+fn every_path_has_its_sheet() {
+    let outcomes = paths(&path_folder());
     assert!(!outcomes.is_empty());
     assert_eq!(report(&outcomes).1, 0);
 }

@@ -2,7 +2,9 @@
 
 use reference::examples::examples;
 use reference::properties::{properties, Coverage};
-use reference::selfcheck::{case_folder, cases, reading_folder, readings, report, rewritings, step_folder};
+use reference::selfcheck::{
+    case_folder, cases, path_folder, paths, reading_folder, readings, report, rewritings, step_folder,
+};
 use std::process::ExitCode;
 
 const SEED: u64 = 1;
@@ -23,15 +25,17 @@ fn main() -> ExitCode {
     let folders = cases(&case_folder());
     let read = readings(&reading_folder());
     let rewritten = rewritings(&step_folder());
+    let sheets = paths(&path_folder());
     let worked = examples();
     println!(
-        "{} cases, {} readings, {} lists of steps, {} examples, {count} seeds from {seed}",
+        "{} cases, {} readings, {} lists of steps, {} paths, {} examples, {count} seeds from {seed}",
         folders.len(),
         read.len(),
         rewritten.len(),
+        sheets.len(),
         worked.len()
     );
-    let mut outcomes = [folders, read, rewritten, worked, properties(seed, count, &mut coverage)].concat();
+    let mut outcomes = [folders, read, rewritten, sheets, worked, properties(seed, count, &mut coverage)].concat();
     // Fewer inputs may miss a kind or a number.
     if count >= COUNT {
         outcomes.extend(coverage.outcomes());

@@ -21,7 +21,7 @@ const DAMAGED: usize = 4;
 pub struct Met {
     /// Steps that the panel accepted by kind, and its refusals by number.
     kinds: [u32; 7],
-    numbers: [u32; 21],
+    numbers: [u32; 22],
     /// Texts and checked values with one node too many for the panel alone.
     one_more: [u32; 2],
     /// Runs that both finished, that 18 ended at the panel alone, at the desk alone; and those after steps that both finished.
@@ -32,7 +32,7 @@ pub struct Met {
 }
 
 impl Met {
-    fn refused(&mut self, refusal: Refusal) {
+    pub fn refused(&mut self, refusal: Refusal) {
         self.numbers[refusal.number as usize] += 1;
     }
 
