@@ -84,7 +84,7 @@ fn with_byte(database: Database, named: Named, b: u8) -> Named
     }
 }
 
-// 10 or 9 of a path's text, by its first bad name.
+// 10 or 9 of a path's text, by its first bad name. Of a text that is no path nothing is said.
 pub fn check_names(path: &[u8], database: Database) -> Verdict
     ensures { λ r. ⌜ ((p : PropertyPath) → readPath pathLimit (now (path .entry)) ≡ accepted p
         → r ≡ verdict (noFault (nameFaults (schema columns database) (names p)))) ⌝ }

@@ -23,12 +23,12 @@ reads : String → Reply PropertyPath
 unfolding bytes readOn step sign
 reads text = readPath pathLimit (bytes text)
 
--- "^" binds the operand with its "+"
+-- `^` takes the operand with its `+`
 inverse-of-plus : reads "^0+" ≡ accepted (inverse (plus (name 0)))
 unfolding reads
 inverse-of-plus = refl
 
--- "/" before "|", both grouped to the left
+-- `/` binds tighter than `|`, and both group to the left
 precedence : reads "0|1/^12/(2|3)+|4"
     ≡ accepted (alternative (alternative (name 0) (sequence (sequence (name 1) (inverse (name 12))) (plus (alternative (name 2) (name 3))))) (name 4))
 unfolding reads
