@@ -1,4 +1,6 @@
 // The names of a path over a book (02, U6): "A table outside the book gets 10, wrong columns get 9 …; the first such name in the path decides."
+use byte_classes::ByteClass;
+use byte_classes::class_of;
 use column_sets::no_columns;
 use column_sets::same_columns;
 use column_sets::with_column;
@@ -6,7 +8,6 @@ use database::Database;
 use database::Refusal;
 use database::Verdict;
 use database::table_columns;
-use path_reading::is_digit;
 use relation::Columns;
 use scoping::first_pass::accept_if;
 use scoping::first_pass::first_of;
@@ -72,8 +73,8 @@ fn with_digit(database: Database, named: Named, d: usize) -> Named
 fn with_byte(database: Database, named: Named, b: u8) -> Named
     ensures { λ r. ⌜ r ≡ namedNext (schema columns database) named b ⌝ }
 {
-    if is_digit(b) {
-        return with_digit(database, named, (b - 48) as usize);
+    if let ByteClass::Digit(d) = class_of(b) {
+        return with_digit(database, named, d as usize);
     }
     let before = named.before;
     let all = named.all;

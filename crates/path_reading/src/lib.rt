@@ -1,4 +1,6 @@
 // Reading a path's text (02, U6): 21 with its place, by one pass over the bytes that keeps what may follow and how many parentheses are open.
+use byte_classes::ByteClass;
+use byte_classes::class_of;
 use database::Refusal;
 use database::Verdict;
 use paths::Sign;
@@ -8,7 +10,6 @@ ghost use mathlib.Core.Bool.{_&&_};
 ghost use Prim.Native.Nat.{_≤_};
 ghost use lib.Dec.{eqb};
 ghost use Rattle.database.specs.Refusals.{verdict};
-ghost use Rattle.text.specs.Numbers.{isDigit};
 ghost use Rattle.paths.specs.Reader.{sign, pathLimit, readPath};
 ghost use Rattle.path_reading.specs.Modes.{isRepeat, isSecond, dueNext, afterNext, primaryNext, oneNext, modeNext, depthNext, isStopped, isEnded};
 
@@ -25,17 +26,11 @@ pub enum Mode {
     Stopped,
 }
 
-pub fn is_digit(b: u8) -> bool
-    ensures { λ r. ⌜ r ≡ isDigit b ⌝ }
-{
-    if b < 48 { false } else { b <= 57 }
-}
-
 pub fn sign_of(b: u8) -> Sign
     ensures { λ r. ⌜ r ≡ sign b ⌝ }
 {
-    if is_digit(b) {
-        return Sign::Digit(b - 48);
+    if let ByteClass::Digit(d) = class_of(b) {
+        return Sign::Digit(d);
     }
     if b == 124 {
         return Sign::Alternate;

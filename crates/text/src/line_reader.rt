@@ -9,6 +9,7 @@ ghost use Rattle.text.specs.Cursors.{cursor, Placed, dueLine, wordForm, 
 ghost use Rattle.text.specs.Readings.{numberReply, pairReply, isWord, before, numbersBehind, paired};
 use crate::number_reader::ReadNumber;
 use crate::number_reader::read_number;
+use byte_classes::is_byte;
 
 // What reading two numbers replies.
 pub enum ReadPair {
@@ -46,7 +47,7 @@ pub fn find(text: &[u8], at: usize, b: u8) -> usize
 {
     let mut i = at;
     while i < text.len() {
-        if text[i] == b {
+        if is_byte(text[i], b) {
             return i;
         }
         i += 1;
@@ -63,10 +64,11 @@ pub fn starts(line: &[u8], key: &[u8]) -> bool
     }
     let mut i: usize = 0;
     while i < key.len() {
-        if line[i] != key[i] {
+        if is_byte(line[i], key[i]) {
+            i += 1;
+        } else {
             return false;
         }
-        i += 1;
     }
     true
 }

@@ -2,6 +2,9 @@
 ghost use mathlib.Core.Path.{_≡_};
 ghost use Rattle.text.specs.Numbers.{number};
 ghost use Rattle.text.specs.Readings.{numberReply, valueIn};
+use byte_classes::ByteClass;
+use byte_classes::class_of;
+use byte_classes::is_byte;
 
 // What reading a number replies.
 pub enum ReadNumber {
@@ -23,15 +26,10 @@ fn read_digits(digits: &[u8]) -> ReadNumber
     let mut value: u64 = 0;
     let mut i: usize = 0;
     while i < digits.len() {
-        let b = digits[i];
-        if b < 48 {
+        let ByteClass::Digit(d) = class_of(digits[i]) else {
             return ReadNumber::Bad;
-        }
-        if 57 < b {
-            return ReadNumber::Bad;
-        }
-        let d = wide(b - 48);
-        value = value * 10 + d;
+        };
+        value = value * 10 + wide(d);
         if 4294967295 < value {
             return ReadNumber::Bad;
         }
@@ -48,7 +46,7 @@ pub fn read_number(digits: &[u8]) -> ReadNumber
         return ReadNumber::Bad;
     }
     if 1 < digits.len() {
-        if digits[0] == 48 {
+        if is_byte(digits[0], b'0') {
             return ReadNumber::Bad;
         }
     }

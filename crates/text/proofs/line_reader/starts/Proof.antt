@@ -1,8 +1,10 @@
 -- `starts` meets its contract: what is left of the line begins with what is left of the key.
+use borrow.Author.Needs.{needs}
+use borrow.Author.Tests.{eqb-true, eqb-false}
 use native.Mathlib.Omega.{arith}
-use Prim.Native.Nat.{ℕ, _≤_, _-_, _+_}
+use Prim.Native.Nat.{ℕ, _≤_, _-_}
 use mathlib.Core.Path.{_≡_, refl, ap, sym, _∙_}
-use mathlib.Core.List.{List, []}
+use mathlib.Core.List.{List}
 use lib.ListN.{length, drop, drop-of-length-le}
 use denote.Ref.{now}
 use Rattle.text.specs.Lines.{after}
@@ -19,16 +21,29 @@ abbrev μ-loop : tie.MeasureT-loop
 
 loop-again : tie.Need-loop-again Inv-loop μ-loop
 loop-again c =
-    let t = c .before .before .before in
-    let s = t .before .before .before .args in (
+    let t = c .before .before .before .before in
+    let s = t .before .before .before .before .before .args in (
       omega arith,
-      sym (after-same (now (s .key)) (now (s .line)) (t .before .loop .i) (t .loop-test .taken) (omega arith) (c .if2 .left)) ∙ t .before .loop .inv .1,
+      sym
+          (after-same (now (s .key)) (now (s .line)) (t .before .loop .i) (t .loop-test .taken) (omega arith)
+          (eqb-true _ _ (sym (c .before .is-byte .ensures) ∙ c .if2 .taken)))
+          ∙ t .before .loop .inv .1,
     )
 
-returns : tie.Need-returns-3 Inv-loop μ-loop
+returns-2 : tie.Need-returns-2 Inv-loop μ-loop
+returns-2 c =
+    let t = c .before .before .before .before in
+    let s = t .before .before .before .before .before .args in
+    ap present
+    (sym
+    (after-other (now (s .key)) (now (s .line)) (t .before .loop .i) (t .loop-test .taken) (omega arith)
+    (eqb-false _ _ (sym (c .before .is-byte .ensures) ∙ c .if2 .left)))
+    ∙ t .before .loop .inv .1)
+
+returns-3 : tie.Need-returns-3 Inv-loop μ-loop
 unfolding after
-returns c =
-    let s = c .before .before .before .args in
+returns-3 c =
+    let s = c .before .before .before .before .before .args in
     let l : List ℕ = drop (c .before .loop .i) (now (s .line)) in
     ap present (sym (ap (λ k. after k l) (drop-of-length-le (now (s .key)) (c .loop-test .left))) ∙ c .before .loop .inv .1)
 
@@ -36,17 +51,13 @@ pub starts-spec : {M : Type 1} → statement M
 starts-spec =
     tie.close
     (tie.spec Inv-loop μ-loop
-    (λ c. ap present (sym (after-short (now (c .before .args .key)) (now (c .before .args .line)) (c .if1 .taken))))
+    (λ c. let s = c .before .before .before .args in ap present (sym (after-short (now (s .key)) (now (s .line)) (c .if1 .taken))))
     (λ c. (omega arith, refl))
     (λ c. omega arith)
     (λ c. omega arith)
-    (λ c.
-    let t = c .before .before .before in
-    let s = t .before .before .before .args in
-    ap present
-    (sym (after-other (now (s .key)) (now (s .line)) (t .before .loop .i) (t .loop-test .taken) (omega arith) (c .if2 .taken))
-    ∙ t .before .loop .inv .1))
+    (λ c κs. search needs)
     (λ c. omega arith)
     (λ c. omega arith)
     loop-again
-    returns)
+    returns-2
+    returns-3)

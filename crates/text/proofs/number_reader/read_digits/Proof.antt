@@ -1,16 +1,16 @@
 -- `read_digits` meets its contract: the digits that are left, behind the value so far, have the value of them all.
 use borrow.Author.Needs.{needs}
-use borrow.Author.Tests.{le-leb, lt-leb}
 use native.Mathlib.Omega.{arith}
-use Prim.Native.Nat.{ℕ, _≤_, _<_, _-_, _+_, _*_}
+use Prim.Native.Nat.{ℕ, _≤_, _-_, _+_, _*_}
 use mathlib.Core.Path.{_≡_, refl, ap, sym, _∙_}
-use mathlib.Core.Bool.{true, false, and-false}
-use mathlib.Core.Option.{Option, some, none}
-use mathlib.Core.List.{List, [], _∷_}
+use mathlib.Core.Option.{none}
+use mathlib.Core.List.{List, _∷_}
 use lib.ListN.{length, drop, getD, drop-of-length-le}
 use denote.Ref.{now}
 use Rattle.laws.proofs.Fronts.{drop-next}
-use Rattle.text.specs.Numbers.{maxNumber, isDigit}
+use Rattle.byte_classes.proofs.Ranges.{inside}
+use Rattle.byte_classes.proofs.Bytes.{digit-byte, no-digit}
+use Rattle.text.specs.Numbers.{maxNumber}
 use Rattle.text.specs.Readings.{numberReply, valueIn}
 use Rattle.text.proofs.ReaderLawsNumbers.{value-all, value-more, value-bad, value-over}
 use Rattle.text.proofs.number_reader.read_digits.Statement.{statement}
@@ -42,17 +42,33 @@ module _ (c : tie.In-loop Inv-loop μ-loop) where
   stops : valueIn value (b ∷ rest) ≡ none → numberReply none ≡ numberReply (valueIn 0 l)
   stops e = ap numberReply (sym e ∙ next)
 
-  digit : 48 ≤ b → b ≤ 57 → valueIn value (b ∷ rest) ≡ valueIn (value * 10 + (b - 48)) rest
-  digit h k = value-more value b rest (simp (le-leb 48 b h, le-leb b 57 k))
+module _ (c : tie.After-known-told Inv-loop μ-loop) where
+  abbrev turn : tie.In-loop Inv-loop μ-loop
+  turn = c .before .before .before .before .before
+
+  abbrev d : ℕ
+  d = c .before .d .given .0 .0
+
+  -- the digit and its value
+  known : (48 ≤ b turn) × ((b turn ≤ 57) × (d ≡ b turn - 48))
+  known = digit-byte (b turn) d (sym (c .before .before .before .class-of .ensures) ∙ c .before .d .given .1)
+
+  digit : valueIn (value turn) (b turn ∷ rest turn) ≡ valueIn (value turn * 10 + d) (rest turn)
+  digit = value-more (value turn) (b turn) (rest turn) (inside 48 57 (b turn) (known .0) (known .1 .0))
+      ∙ ap (λ n. valueIn (value turn * 10 + n) (rest turn)) (sym (known .1 .1))
+
+returns : tie.Need-returns Inv-loop μ-loop
+returns c =
+    let t = c .before .before .before in
+    stops t (value-bad _ (b t) _ (no-digit (b t) _ (c .before .class-of .ensures) (c .match .keys2)))
 
 loop-again : tie.Need-loop-again Inv-loop μ-loop
 loop-again c =
-    let t = c .before .before .before .before .before in (
+    let k = c .before .before in (
       omega arith,
       (
         omega arith,
-        ap (λ d. valueIn (value t * 10 + d) (rest t)) (c .before .wide .ensures)
-            ∙ sym (digit t (c .before .before .before .if1 .left) (c .before .before .if2 .left)) ∙ next t,
+        ap (λ n. valueIn (value (turn k) * 10 + n) (rest (turn k))) (c .before .wide .ensures) ∙ sym (digit k) ∙ next (turn k),
       ),
     )
 
@@ -62,16 +78,15 @@ read-digits-spec =
     (tie.spec Inv-loop μ-loop
     (λ c. (search needs, (search needs, refl)))
     (λ c. omega arith)
-    (λ c. stops (c .before .before) (value-bad _ _ _ (simp (lt-leb 48 _ (c .if1 .taken)))))
-    (λ c. stops (c .before .before .before) (value-bad _ _ _ (simp (lt-leb _ 57 (c .if2 .taken), and-false))))
     (λ c κs. search needs)
+    (λ c. search needs)
+    returns
     (λ c. omega arith)
-    (λ c. omega (arith, c .wide .ensures))
+    (λ c κs. search needs)
+    (λ c. let h = known (c .before) in omega (arith, h, c .wide .ensures))
     (λ c.
-    let t = c .before .before .before .before .before in
-    stops t
-    (digit t (c .before .before .before .if1 .left) (c .before .before .if2 .left)
-    ∙ value-over (value t * 10 + (b t - 48)) (rest t) (omega (arith, c .before .wide .ensures, c .if3 .taken))))
+    let k = c .before .before in
+    stops (turn k) (digit k ∙ value-over (value (turn k) * 10 + d k) (rest (turn k)) (omega (arith, c .before .wide .ensures, c .if1 .taken))))
     (λ c. omega arith)
     (λ c. omega arith)
     loop-again

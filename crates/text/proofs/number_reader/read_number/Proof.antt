@@ -1,4 +1,5 @@
 use borrow.Author.Needs.{needs}
+use borrow.Author.Tests.{eqb-true, eqb-false}
 use mathlib.Core.Path.{ap, sym, _∙_}
 use mathlib.Core.Logic.{⊎-elim}
 use mathlib.Core.List.{List}
@@ -15,7 +16,7 @@ returns-3 c =
     let nonempty = c .before .before .if1 .left in
     c .read-digits .ensures
     ∙ ⊎-elim
-    (λ w. ap numberReply (sym (number-long l nonempty (w .2 .left))))
+    (λ w. ap numberReply (sym (number-long l nonempty (eqb-false _ 48 (sym (w .2 .ensures) ∙ w .3 .left)))))
     (λ w. ap numberReply (sym (number-short l nonempty (w .left))))
     (c .before .if2 .came)
 
@@ -25,6 +26,9 @@ read-number-spec =
     (tie.spec
     (λ c. ap numberReply (sym (number-empty _ (c .if1 .taken))))
     (λ c. search needs)
-    (λ c. ap numberReply (sym (number-zero _ (c .before .before .if2 .taken) (c .if3 .taken))))
+    (λ c κs. search needs)
+    (λ c.
+    ap numberReply
+    (sym (number-zero _ (c .before .before .before .if2 .taken) (eqb-true _ 48 (sym (c .before .is-byte .ensures) ∙ c .if3 .taken)))))
     (λ c κs. search needs)
     returns-3)

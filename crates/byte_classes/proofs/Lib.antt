@@ -1,0 +1,6 @@
+pub mod Ranges
+pub mod Characters
+pub mod Classed
+pub mod OneClass
+pub mod Others
+pub mod Bytes
