@@ -129,6 +129,23 @@ def public_citations(crate, function):
     return f"use Rattle.{crate}.specs.{function}"
 
 
+def bytes_are_classed_in_one_place():
+    """Only `byte_classes` compares a byte with a digit, comma, equals sign or line end, and no code holds a table of 256 entries."""
+    asking = {line.split(":")[0] for line in (TOP / "crates.txt").read_text().splitlines() if re.search(r": .*\bbyte_classes\b", line)}
+    test, byte, value = r"(?:[=!<>]=|[<>])", r"b'(?:\\.|[^'])'", r"(?:10|44|4[89]|5[0-7]|61)\b"
+    anywhere = [rf"{test} *{byte}", rf"{byte} *(?:{test}|=>|\.\.|\|)", r"; *256 *\]"]
+    in_readers = [rf"{test} *{value}", rf"(?<![\w.]){value} *{test}", rf"\w\[[^\]]*\] *{test}", rf"{test} *\w+\["]
+    bad = [] if asking else ["no crate asks for a byte's class"]
+    for crate in CRATES:
+        patterns = anywhere + in_readers * (crate in asking)
+        for path in sorted((TOP / "crates" / crate / "src").rglob("*.rt")) if crate != "byte_classes" else []:
+            for number, line in enumerate(path.read_text().splitlines(), 1):
+                code = "" if "⌜" in line else re.sub(r"//.*", "", line)
+                if any(re.search(pattern, code) for pattern in patterns):
+                    bad.append(f"{path.relative_to(TOP)}:{number}: {line.strip()}")
+    return bad
+
+
 def the_pages_name_files_that_are_there():
     bad = []
     for page in [TOP / "README.md", *sorted((TOP / "docs").rglob("*.md"))]:
@@ -301,6 +318,7 @@ TESTS = [
     no_axioms_and_no_holes,
     every_definition_file_says_what_it_states,
     no_public_function_without_a_contract,
+    bytes_are_classed_in_one_place,
 ]
 
 failed = 0

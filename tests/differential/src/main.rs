@@ -1,7 +1,7 @@
 //! Compares the engine with the reference, call by call: `differential SEED COUNT` on the inputs of COUNT seeds from SEED
 //! on. A case is one call: the reply and all lent slices afterwards, or the rows of a path's run beside what the path links. A
-//! difference prints its seed and both sides. Then texts of at most one byte, and the rows and lines run of each workload of
-//! bench/. The last line is 'N passed, M failed'.
+//! difference prints its seed and both sides. Then texts of at most one byte, the rows and lines run of each workload of
+//! bench/, and texts with each byte at each place. The last line is 'N passed, M failed'.
 
 mod at;
 mod call;
@@ -9,6 +9,7 @@ mod inputs;
 mod measured;
 mod paths;
 mod slices;
+mod sweep;
 mod tally;
 mod wrapper;
 
@@ -65,6 +66,8 @@ fn main() -> ExitCode {
     if count >= COUNT {
         tally.all_met();
     }
+    // What has to be met is met without the sweep.
+    sweep::cases(&mut tally);
     println!("{} passed, {} failed", tally.passed, tally.failed);
     ExitCode::from(u8::from(tally.failed > 0))
 }

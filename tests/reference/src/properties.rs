@@ -1,5 +1,6 @@
 //! Properties of random inputs. Each seed gives one input; a property that fails names its seed.
 
+mod bytes;
 pub mod comes_home;
 mod desk_and_panel;
 mod first_day;
@@ -20,13 +21,14 @@ use crate::text::{print_answer, print_database, print_query, print_steps, read_d
 use crate::value::{slots_of, Database, Node, Query, Refusal, COLUMNS};
 
 /// What random inputs have met: accepted rewrites by kind, refusals by number, filters over rows with a 0 in their column and
-/// those of them that were pushed into a recursion, and what books of zero bytes, desk and panel, recursions typed in one piece,
-/// columns that come home and property paths have.
+/// those of them that were pushed into a recursion, and what bytes of lines, books of zero bytes, desk and panel, recursions typed
+/// in one piece, columns that come home and property paths have.
 #[derive(Default)]
 pub struct Coverage {
     pub kinds: [u32; 7],
     pub numbers: [u32; 22],
     pub unknown: [u32; 2],
+    pub bytes: bytes::Met,
     pub first_day: first_day::Met,
     pub panel: desk_and_panel::Met,
     pub one_piece: one_piece::Met,
@@ -39,8 +41,9 @@ impl Coverage {
         self.numbers[refusal.number as usize] += 1;
     }
 
-    /// Each kind was accepted and each number given; filters met 0, also in a recursion; what books of zero bytes met, the
-    /// panel's share of it, and that of recursions typed in one piece, of columns that come home and of property paths.
+    /// Each kind was accepted and each number given; filters met 0, also in a recursion; what bytes of lines and books of zero
+    /// bytes met, the panel's share of it, and that of recursions typed in one piece, of columns that come home and of property
+    /// paths.
     pub fn outcomes(&self) -> Vec<Outcome> {
         let seen = format!("accepted by kind {:?}, refused by number {:?}", &self.kinds[1..], &self.numbers[1..]);
         let full = self.kinds[1..].iter().chain(&self.numbers[1..]).all(|times| *times > 0);
@@ -49,7 +52,7 @@ impl Coverage {
         let seen = format!("{} filters over a 0, {} of them pushed in", self.unknown[0], self.unknown[1]);
         let met = self.unknown.iter().all(|times| *times > 0);
         let unknown = ("filters meet unknown values".to_string(), if met { Ok(seen) } else { Err(seen) });
-        let single = vec![all, unknown, self.first_day.outcome(), self.panel.outcome()];
+        let single = vec![all, unknown, self.bytes.outcome(), self.first_day.outcome(), self.panel.outcome()];
         [single, self.one_piece.outcomes(), self.comes_home.outcomes(), self.paths.outcomes()].concat()
     }
 }
@@ -58,11 +61,12 @@ impl Coverage {
 type Verdict = Result<bool, String>;
 type Property = fn(&mut Random, &mut Coverage) -> Verdict;
 
-const PROPERTIES: [(&str, Property); 39] = [
+const PROPERTIES: [(&str, Property); 40] = [
     ("a printed query is read back", queries_are_read_back),
     ("a printed database is read back", databases_are_read_back),
     ("a query's refusal names its first bad line", first_bad_line_of_a_query),
     ("a database's refusal names its first bad line", first_bad_line_of_a_database),
+    ("each byte at each place of a line is refused off the forms, and only there", bytes::lines),
     ("zero bytes are a book and no sheet, one byte is no book", first_day::shortest_texts),
     ("a book of zero bytes is one without tables", first_day::first_days),
     ("values off the form are refused at their place", values_off_the_form),
