@@ -130,14 +130,18 @@ def public_citations(crate, function):
 
 
 def bytes_are_classed_in_one_place():
-    """Only `byte_classes` compares a byte with a digit, comma, equals sign or line end, and no code holds a table of 256 entries."""
-    asking = {line.split(":")[0] for line in (TOP / "crates.txt").read_text().splitlines() if re.search(r": .*\bbyte_classes\b", line)}
-    test, byte, value = r"(?:[=!<>]=|[<>])", r"b'(?:\\.|[^'])'", r"(?:10|44|4[89]|5[0-7]|61)\b"
+    """Only `byte_classes` compares a byte with a digit, comma, equals sign or line end, and no code holds a table of 256 entries. Where texts are
+    read or written no entry of a slice is compared either, nor anything with the numbers of these bytes."""
+    listed = (TOP / "crates.txt").read_text().splitlines()
+    texts = {"text"} | {line.split(":")[0] for line in listed if re.search(r": .*\b(?:byte_classes|text)\b", line)}
+    order, equal, byte = r"(?<![=-])[<>]=?", r"[=!]=", r"b'(?:\\.|[^'])'"
+    test, bound, value = rf"(?:{order}|{equal})", r"(?:4[7-9]|5[0-8])\b", r"(?:10|44|4[89]|5[0-7]|61)\b"
     anywhere = [rf"{test} *{byte}", rf"{byte} *(?:{test}|=>|\.\.|\|)", r"; *256 *\]"]
-    in_readers = [rf"{test} *{value}", rf"(?<![\w.]){value} *{test}", rf"\w\[[^\]]*\] *{test}", rf"{test} *\w+\["]
-    bad = [] if asking else ["no crate asks for a byte's class"]
+    of_numbers = [rf"{order} *{bound}", rf"{equal} *{value}", rf"(?<![\w.])(?:{bound} *{order}|{value} *(?:{equal}|=>|\.\.|\|))"]
+    of_entries = [rf"\w\[[^\]]*\] *{test}", rf"{test} *\w+\["]
+    bad = []
     for crate in CRATES:
-        patterns = anywhere + in_readers * (crate in asking)
+        patterns = anywhere + (of_numbers + of_entries) * (crate in texts)
         for path in sorted((TOP / "crates" / crate / "src").rglob("*.rt")) if crate != "byte_classes" else []:
             for number, line in enumerate(path.read_text().splitlines(), 1):
                 code = "" if "⌜" in line else re.sub(r"//.*", "", line)

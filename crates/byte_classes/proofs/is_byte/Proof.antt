@@ -13,7 +13,7 @@ use Rattle.byte_classes.specs.declared.ByteClass.the-variants.{Digit, Co
 use Rattle.byte_classes.specs.Classes.{classOf, Belongs}
 use Rattle.byte_classes.proofs.OneClass.{one-class}
 use Rattle.byte_classes.proofs.Others.{other-variant}
-use Rattle.byte_classes.proofs.Bytes.{same-digit, same-sign, other-byte}
+use Rattle.byte_classes.proofs.Bytes.{others, same-digit, same-sign, other-byte}
 use Rattle.byte_classes.proofs.ByteClass.{the-type}
 use Rattle.byte_classes.proofs.is_byte.Statement.{statement}
 use Rattle.byte_classes.proofs.is_byte.Tie as tie
@@ -36,7 +36,7 @@ unfolding any
 returns-2 c =
     let v = c .before .before .before in
     let s = v .before .before .before .args in
-    differs (s .b) (s .asked) (1 ∷ (2 ∷ (3 ∷ (4 ∷ (5 ∷ []))))) _ (Digit (v .value .given .0 .0)) (c .before .class-of2 .ensures)
+    differs (s .b) (s .asked) others _ (Digit (v .value .given .0 .0)) (c .before .class-of2 .ensures)
     (sym (v .value .given .1) ∙ v .before .before .class-of .ensures) (c .match2 .keys2) refl
 
 returns-4 : tie.Need-returns-4
