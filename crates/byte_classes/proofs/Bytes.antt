@@ -12,26 +12,20 @@ use denote.Enum.Declared.{tagOf}
 use lib.Dec.{eqb}
 use types.Run.{OneOf}
 use Rattle.laws.specs.Lists.{any}
-use Rattle.laws.proofs.Options.{none-some, some-inj}
 use Rattle.laws.proofs.Tests.{same?}
 use Rattle.byte_classes.specs.declared.ByteClass.{ByteClass}
 use Rattle.byte_classes.specs.declared.ByteClass.the-variants.{Digit}
-use Rattle.byte_classes.specs.Classes.{within, classOf, isIn, decimal, Belongs}
+use Rattle.byte_classes.specs.Classes.{within, classOf, isIn, Belongs}
 use Rattle.byte_classes.proofs.ByteClass.{the-type}
 use Rattle.byte_classes.proofs.Others.{other-variant}
-use Rattle.byte_classes.proofs.Ranges.{inside, range?, outside, runs, place-inside}
-use Rattle.byte_classes.proofs.Characters.{digit-place, sign-in}
+use Rattle.byte_classes.proofs.Ranges.{inside, range?, outside}
+use Rattle.byte_classes.proofs.Characters.{digit-placed, sign-in}
 use Rattle.byte_classes.proofs.OneClass.{one-class}
 
 -- a digit is in its range, and its value is counted from the first
 pub digit-byte : (b d : ℕ) → classOf b ≡ Digit d → (48 ≤ b) × ((b ≤ 57) × (d ≡ b - 48))
-unfolding Belongs runs
-digit-byte b d e =
-    let found : Belongs b (Digit d) = one-class b (Digit d) .1 e in
-    elim (range? 48 57 b) [
-      | inl (h, k) ↦ (h, (k, some-inj (sym found ∙ place-inside decimal 48 58 b refl h (omega (arith, k)))))
-      | inr h ↦ none-some (sym (digit-place b ∙ simp (outside 48 57 b h)) ∙ found)
-    ]
+unfolding Belongs
+digit-byte b d e = digit-placed b d (one-class b (Digit d) .1 e)
 
 -- all variants but the digits'
 abbrev pub others : List ℕ
