@@ -4,3 +4,4 @@ pub mod Classed
 pub mod OneClass
 pub mod Others
 pub mod Bytes
+pub mod Coded
