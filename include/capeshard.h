@@ -35,7 +35,8 @@ enum {
     CAPESHARD_DATABASE_ROOM = 1 + CAPESHARD_TABLE_ENTRIES * CAPESHARD_TABLES,
     CAPESHARD_RUN_ROOM = 3,
     CAPESHARD_SLOT_ENTRIES = 7,
-    CAPESHARD_PLAN_ROOM = 1 + CAPESHARD_SLOT_ENTRIES * CAPESHARD_NODES
+    CAPESHARD_PLAN_ROOM = 1 + CAPESHARD_SLOT_ENTRIES * CAPESHARD_NODES,
+    CAPESHARD_ALLOWANCE_ROOM = 1
 };
 
 /* The codes of lines, in the order of document 01's table, and of document 02's mu. */
@@ -105,6 +106,13 @@ uint64_t capeshard_rewrite(uint32_t *query, size_t query_len, const uint32_t *da
 uint64_t capeshard_compile(const uint32_t *query, size_t query_len, const uint32_t *database, size_t database_len, const uint32_t *store,
                            size_t store_len, size_t limit, uint32_t *plan, size_t plan_len);
 
+/* How large an allowance is enough: compiles a query (as the check, then 16) and tells beside the plan, in allowance, the plan's number of lines times
+ * rows, the row limit. However a run with that row limit ends, it runs no more lines, so a budget of that many or more never gives 19. limit: as for a
+ * sheet. Nothing is run, and no workspace is asked for. */
+uint64_t capeshard_allowance(const uint32_t *query, size_t query_len, const uint32_t *database, size_t database_len, const uint32_t *store,
+                             size_t store_len, size_t limit, size_t rows, uint32_t *plan, size_t plan_len, uint32_t *allowance,
+                             size_t allowance_len);
+
 /* Runs a query (as the check, then 16 to 19). rows: the row limit; budget: the most plan lines that are run. Accepted, the answer's rows ascend
  * from the start of answer, CAPESHARD_COLUMNS entries a row, and told holds the answer's columns as bits, its row count, and the lines run. */
 uint64_t capeshard_run(const uint32_t *query, size_t query_len, const uint32_t *database, size_t database_len, const uint32_t *store, size_t store_len,
@@ -132,6 +140,10 @@ uint64_t capeshard_panel_rewrite(uint32_t *query, size_t query_len, const uint32
 /* Compiles a query (as the panel's check); plan takes CAPESHARD_PLAN_ROOM entries here too. */
 uint64_t capeshard_panel_compile(const uint32_t *query, size_t query_len, const uint32_t *database, size_t database_len, const uint32_t *store,
                                  size_t store_len, uint32_t *plan, size_t plan_len);
+
+/* How large an allowance is enough on the panel (as the panel's check): the plan's number of lines times CAPESHARD_PANEL_ROWS. */
+uint64_t capeshard_panel_allowance(const uint32_t *query, size_t query_len, const uint32_t *database, size_t database_len, const uint32_t *store,
+                                   size_t store_len, uint32_t *plan, size_t plan_len, uint32_t *allowance, size_t allowance_len);
 
 /* Runs a query (as the panel's check, then 17 to 19; never 16, as no row limit is handed in). It needs CAPESHARD_WORKSPACE(nodes, fixes,
  * CAPESHARD_PANEL_ROWS) entries of workspace: CAPESHARD_PANEL_WORKSPACE are always enough. An answer has at most CAPESHARD_PANEL_ROWS rows. */

@@ -21,6 +21,7 @@ const DATABASE_ROOM: usize = 1 + TABLE_ENTRIES * TABLES;
 const RUN_ROOM: usize = 3;
 const SLOT_ENTRIES: usize = 7;
 const PLAN_ROOM: usize = 1 + SLOT_ENTRIES * NODES;
+const ALLOWANCE_ROOM: usize = 1;
 
 /// The calls themselves, over slices of any length and content. What each asks and does stands in `include/capeshard.h`.
 pub mod calls {
@@ -82,6 +83,20 @@ pub mod calls {
             plan: *mut u32,
             plan_len: usize,
         ) -> u64;
+        pub fn capeshard_allowance(
+            query: *const u32,
+            query_len: usize,
+            database: *const u32,
+            database_len: usize,
+            store: *const u32,
+            store_len: usize,
+            limit: usize,
+            rows: usize,
+            plan: *mut u32,
+            plan_len: usize,
+            allowance: *mut u32,
+            allowance_len: usize,
+        ) -> u64;
         pub fn capeshard_run(
             query: *const u32,
             query_len: usize,
@@ -137,6 +152,18 @@ pub mod calls {
             store_len: usize,
             plan: *mut u32,
             plan_len: usize,
+        ) -> u64;
+        pub fn capeshard_panel_allowance(
+            query: *const u32,
+            query_len: usize,
+            database: *const u32,
+            database_len: usize,
+            store: *const u32,
+            store_len: usize,
+            plan: *mut u32,
+            plan_len: usize,
+            allowance: *mut u32,
+            allowance_len: usize,
         ) -> u64;
         pub fn capeshard_panel_run(
             query: *const u32,
@@ -344,6 +371,13 @@ impl PlanLine {
     }
 }
 
+/// A plan, and a budget with which none of its runs is refused with 19: its number of lines times the row limit.
+#[derive(Clone, Debug, PartialEq, Eq)]
+pub struct Allowance {
+    pub plan: Vec<PlanLine>,
+    pub budget: u32,
+}
+
 /// The columns whose bits are set.
 fn columns_of(bits: u32) -> Vec<usize> {
     (0..COLUMNS).filter(|column| bits >> column & 1 == 1).collect()
@@ -546,6 +580,30 @@ impl Query {
             )
         })?;
         Ok(PlanLine::all(&plan))
+    }
+
+    /// How large an allowance is enough for runs with so many rows a register (as the check, then 16): a run with this budget or more never gets 19.
+    pub fn allowance(&self, database: &Database, rows: usize) -> Result<Allowance, Refusal> {
+        let mut plan = [0; PLAN_ROOM];
+        let mut budget = [0; ALLOWANCE_ROOM];
+        // SAFETY: each pointer and length is that of one slice, and the written ones are borrowed here alone.
+        reply(unsafe {
+            calls::capeshard_allowance(
+                self.flat.as_ptr(),
+                self.flat.len(),
+                database.flat.as_ptr(),
+                database.flat.len(),
+                database.store.as_ptr(),
+                database.store.len(),
+                NODES,
+                rows,
+                plan.as_mut_ptr(),
+                plan.len(),
+                budget.as_mut_ptr(),
+                budget.len(),
+            )
+        })?;
+        Ok(Allowance { plan: PlanLine::all(&plan), budget: budget[0] })
     }
 
     /// Runs the query (as the check, then 16, 18, 19): at most so many rows a register, at most so many plan lines.

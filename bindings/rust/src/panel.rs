@@ -1,7 +1,7 @@
 //! The wall panel: the desk's queries with less memory. Its functions take at most [`NODES`] nodes, fewer than those of [`Query`], and the row limit is
 //! [`ROWS`]. A query of at most [`NODES`] nodes serves both, whichever rewrote it; where both finish a run, their answers are the same.
 
-use crate::{calls, reply, Answer, Database, PlanLine, Query, Refusal, COLUMNS, PLAN_ROOM, RUN_ROOM};
+use crate::{calls, reply, Allowance, Answer, Database, PlanLine, Query, Refusal, ALLOWANCE_ROOM, COLUMNS, PLAN_ROOM, RUN_ROOM};
 
 /// The most nodes of a query.
 pub const NODES: usize = 32;
@@ -88,6 +88,28 @@ pub fn compile(query: &Query, database: &Database) -> Result<Vec<PlanLine>, Refu
         )
     })?;
     Ok(PlanLine::all(&plan))
+}
+
+/// How large an allowance is enough (as the check): a run with this budget or more never gets 19.
+pub fn allowance(query: &Query, database: &Database) -> Result<Allowance, Refusal> {
+    let mut plan = [0; PLAN_ROOM];
+    let mut budget = [0; ALLOWANCE_ROOM];
+    // SAFETY: each pointer and length is that of one slice, and the written ones are borrowed here alone.
+    reply(unsafe {
+        calls::capeshard_panel_allowance(
+            query.flat.as_ptr(),
+            query.flat.len(),
+            database.flat.as_ptr(),
+            database.flat.len(),
+            database.store.as_ptr(),
+            database.store.len(),
+            plan.as_mut_ptr(),
+            plan.len(),
+            budget.as_mut_ptr(),
+            budget.len(),
+        )
+    })?;
+    Ok(Allowance { plan: PlanLine::all(&plan), budget: budget[0] })
 }
 
 /// Runs a query (as the check, then 18, 19): at most [`ROWS`] rows a register, at most so many plan lines.

@@ -1,27 +1,25 @@
 -- A run that finishes has no register over the row limit L.
-use mathlib.Core.Path.{_≡_, refl, sym}
+use mathlib.Core.Path.{_≡_}
 use mathlib.Core.Bool.{Bool, true, false, not}
 use mathlib.Core.List.{List, [], _∷_}
-use Prim.Native.Nat.{ℕ, zero, suc, _≤_}
+use Prim.Native.Nat.{ℕ, suc, _≤_}
 use native.Mathlib.Omega.{arith}
-use lib.Dec.{eqb, leb, ltb}
+use lib.Dec.{eqb}
 use lib.ListN.{getD, length}
-use borrow.Author.Tests.{leb-true}
 use Rattle.laws.specs.Lists.{if_then_else_, sift}
 use Rattle.algebra.specs.Term.{Term}
 use Rattle.algebra.specs.Columns.{Cols, Schema}
 use Rattle.relation.specs.Rows.{Rows, colsOf}
 use Rattle.relation.specs.Operators.{has, minusRows}
-use Rattle.database.specs.declared.Refusal.the-variants.{RowsFull, BudgetSpent}
-use Rattle.database.specs.Refusals.{Reply, refused, accepted, require, _>>=_}
-use Rattle.database.proofs.Replies.{accepted-refused, accepted-same, accepted-then}
-use Rattle.text.proofs.ReplyLaws.{required}
+use Rattle.database.specs.Refusals.{accepted}
+use Rattle.database.proofs.Replies.{accepted-same, accepted-then}
 use Rattle.plan.specs.declared.Op.{Op}
 use Rattle.plan.specs.declared.Op.the-variants.{Table, Fact, Pair, Filter, Copy, Drop, LoopStart, LoopNext}
 use Rattle.plan.specs.declared.Slot.{Slot}
 use Rattle.plan.specs.Plan.{blank, planLines}
-use Rattle.machine.specs.Machine.{Registers, write, State, Effect, effectOf, effect, step, run, start}
+use Rattle.machine.specs.Machine.{Registers, write, State, effectOf, run, start}
 use Rattle.machine.specs.Run.{Answer, execute}
+use Rattle.machine.proofs.Ends.{ends-finished-at, ends-keep}
 
 shorter : {A : Type 0} (p : A → Bool) (l : List A) → length (sift p l) ≤ length l
 unfolding sift
@@ -60,30 +58,14 @@ module _ (L : ℕ) where
         let own = h a in
         few-write (write (s .registers) d _) e (minusRows (s .registers a) (s .registers d)) (few-write (s .registers) d _ h g) (omega arith)
 
-    module _ (plan : List Slot) where
-      few-step : (s n : State) → Few (s .registers) → step w tables L plan s ≡ accepted n → Few (n .registers)
-      unfolding step
-      few-step s n h e =
-          let x : Slot = getD plan (s .next) (blank w) in
-          let (u, fits, is) = accepted-then (require (leb (length (effect w tables x s .rows)) L) RowsFull) _ e in
-          rw (← accepted-same is) (few-effect (colsOf w (x .left)) (colsOf w (x .right)) s (x .op) h (leb-true _ _ (required _ _ u fits)))
-
-      few-run : (budget : ℕ) (s n : State) → Few (s .registers) → run w tables L plan budget s ≡ accepted n → Few (n .registers)
-      unfolding run
-      few-run zero s n h e = by-test (ltb (s .next) (length plan)) e
-        where
-          by-test : (b : Bool) → elim b [ true ↦ refused BudgetSpent | false ↦ accepted s ] ≡ accepted n → Few (n .registers)
-          by-test true f = accepted-refused (sym f)
-          by-test false f = rw (← accepted-same f) h
-      few-run (suc budget) s n h e = by-test (ltb (s .next) (length plan)) e (λ m g more. few-run budget m n (few-step s m h g) more)
-        where
-          by-test : (b : Bool) → elim b [ true ↦ step w tables L plan s >>= (λ next. run w tables L plan budget next) | false ↦ accepted s ] ≡ accepted n
-              → ((m : State) → step w tables L plan s ≡ accepted m → run w tables L plan budget m ≡ accepted n → Few (n .registers)) → Few (n .registers)
-          by-test true f on = let (m, g, more) = accepted-then (step w tables L plan s) _ f in on m g more
-          by-test false f on = rw (← accepted-same f) h
+    few-run : (plan : List Slot) (budget : ℕ) (n : State) → run w tables L plan budget start ≡ accepted n → Few (n .registers)
+    few-run plan budget n e =
+        ends-keep w tables L plan (λ (s : State). Few (s .registers))
+        (λ s here fits h. let x : Slot = getD plan (s .next) (blank w) in few-effect (colsOf w (x .left)) (colsOf w (x .right)) s (x .op) h fits)
+        (ends-finished-at w tables L plan budget e) (λ i. omega arith)
 
   pub few-answer : (G : Schema) (tables : ℕ → Rows) (budget : ℕ) (t : Term) (a : Answer) → execute G tables L budget t ≡ accepted a → length (a .rows) ≤ L
   unfolding execute
   few-answer G tables budget t a e =
       let (s, ran, is) = accepted-then (run (G .width) tables L (planLines G t) budget start) _ e in
-      rw (← accepted-same is) (few-run (G .width) tables (planLines G t) budget start s (λ i. omega arith) ran _)
+      rw (← accepted-same is) (few-run (G .width) tables (planLines G t) budget s ran _)

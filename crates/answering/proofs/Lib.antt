@@ -3,3 +3,4 @@ pub mod Printed
 pub mod FewRows
 pub mod Roomy
 pub mod EmptyBook
+pub mod NeverSpent

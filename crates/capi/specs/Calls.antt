@@ -14,11 +14,11 @@ use Rattle.query.specs.Check.{checkOver}
 use Rattle.plan.specs.declared.Slot.{Slot}
 use Rattle.plan.specs.Plan.{compile}
 use Rattle.rewrite.specs.Rewrite.{rewrite}
-use Rattle.machine.specs.Run.{Answer, begin, runQuery}
+use Rattle.machine.specs.Run.{Answer, Enough, allowance, begin, runQuery}
 use Rattle.text.specs.Texts.{Table, readNodes, databaseValue}
 use Rattle.text.specs.Replies.{loadTables}
 use Rattle.paths.specs.Sheets.{pathNodes}
-use Rattle.flat.specs.Flat.{queryRoom, queryOf, flatNodes, over, databaseRoom, databaseOf, haveRoom, flatDatabase, runRoom, planRoom}
+use Rattle.flat.specs.Flat.{queryRoom, queryOf, flatNodes, over, databaseRoom, databaseOf, haveRoom, flatDatabase, runRoom, planRoom, allowanceRoom}
 
 -- "lent slice short": a slice with less than the layout's room, before anything else is tested
 abbrev pub roomFor : ℕ → List ℕ → Reply (Unit {0})
@@ -78,3 +78,8 @@ module _ (limit : ℕ) (query database store : List ℕ) (rows budget : ℕ) (wo
 -- the plan of a checked query
 abbrev pub compileFlat : ℕ → List ℕ → List ℕ → List ℕ → List ℕ → Reply (List Slot)
 compileFlat limit query database store plan = withRoom query database planRoom plan (λ q d. compile columns limit q d store)
+
+-- the plan, and beside it the product, with one entry for that
+abbrev pub allowanceFlat : ℕ → List ℕ → List ℕ → List ℕ → ℕ → List ℕ → List ℕ → Reply Enough
+allowanceFlat limit query database store rows plan out =
+    withRoom query database planRoom plan (λ q d. roomFor allowanceRoom out >>= λ _. allowance columns limit q d store rows)

@@ -1,5 +1,6 @@
 // The calls: each decodes its flat slices, calls the engine once, and encodes what that replies.
 use database::Verdict;
+use flat::ALLOWANCE_ROOM;
 use flat::DATABASE_ROOM;
 use flat::PLAN_ROOM;
 use flat::QUERY_ROOM;
@@ -26,8 +27,8 @@ ghost use Rattle.query.specs.declared.Node.{Node};
 ghost use Rattle.query.specs.Lines.{nodeLimit};
 ghost use Rattle.text.specs.Replies.{queryReply, storeAfter};
 ghost use Rattle.machine.specs.Run.{workspaceAfter, answerAfter};
-ghost use Rattle.flat.specs.Flat.{status, queryRoom, flatNodes, flatQuery, flatRun, flatSlots};
-ghost use Rattle.capi.specs.Calls.{after, readFlat, pathFlat, loadFlat, flatTables, checkFlat, rewriteFlat, beginFlat, runFlat, compileFlat};
+ghost use Rattle.flat.specs.Flat.{status, queryRoom, flatNodes, flatQuery, flatRun, flatSlots, flatPlan, flatBudget};
+ghost use Rattle.capi.specs.Calls.{after, readFlat, pathFlat, loadFlat, flatTables, checkFlat, rewriteFlat, beginFlat, runFlat, compileFlat, allowanceFlat};
 
 // What was read, as a flat query; a refusal leaves the slice as it was.
 fn encode_read(read: ReadQuery, query: &mut [u32]) -> u64
@@ -224,5 +225,48 @@ pub extern "C" fn capeshard_compile(
         return status(verdict);
     };
     encode_plan(compiled.plan, plan);
+    0
+}
+
+// Compiles a flat query into a flat plan, and tells in `out` the product of its number of lines and the row limit.
+#[no_mangle]
+pub extern "C" fn capeshard_allowance(
+    query: &[u32],
+    database: &[u32],
+    store: &[u32],
+    limit: usize,
+    rows: usize,
+    plan: &mut [u32],
+    out: &mut [u32],
+) -> u64
+    ensures { λ r. ⌜
+        (r ≡ status (verdict (allowanceFlat (min limit nodeLimit) (now (query .entry)) (now (database .entry)) (now (store .entry)) rows (now (plan .entry)) (now (out .entry)))))
+        × (now (plan .exit) ≡ after flatPlan (allowanceFlat (min limit nodeLimit) (now (query .entry)) (now (database .entry)) (now (store .entry)) rows (now (plan .entry)) (now (out .entry))) (now (plan .entry)))
+        × (now (out .exit) ≡ after flatBudget (allowanceFlat (min limit nodeLimit) (now (query .entry)) (now (database .entry)) (now (store .entry)) rows (now (plan .entry)) (now (out .entry))) (now (out .entry)))
+        ⌝ }
+{
+    if !have_room(query, database) {
+        return short_slice();
+    }
+    if plan.len() < PLAN_ROOM {
+        return short_slice();
+    }
+    if out.len() < ALLOWANCE_ROOM {
+        return short_slice();
+    }
+    let allowed = allowance::allowance(
+        decode_query(query),
+        decode_database(database),
+        store,
+        limit,
+        rows,
+    );
+    let budget = allowed.budget;
+    let verdict = allowed.verdict;
+    let Verdict::Accepted = verdict else {
+        return status(verdict);
+    };
+    encode_plan(allowed.plan, plan);
+    out[0] = budget;
     0
 }

@@ -1,4 +1,5 @@
 // The panel's calls: the desk's without `limit` and `rows`.
+use super::calls::capeshard_allowance;
 use super::calls::capeshard_check;
 use super::calls::capeshard_compile;
 use super::calls::capeshard_read_path;
@@ -11,8 +12,8 @@ ghost use mathlib.Core.Path.{_≡_};
 ghost use Rattle.database.specs.Refusals.{verdict};
 ghost use Rattle.machine.specs.Limits.{panelLimits};
 ghost use Rattle.machine.specs.Run.{workspaceAfter, answerAfter};
-ghost use Rattle.flat.specs.Flat.{status, flatNodes, flatQuery, flatRun, flatSlots};
-ghost use Rattle.capi.specs.Calls.{after, readFlat, pathFlat, checkFlat, rewriteFlat, beginFlat, runFlat, compileFlat};
+ghost use Rattle.flat.specs.Flat.{status, flatNodes, flatQuery, flatRun, flatSlots, flatPlan, flatBudget};
+ghost use Rattle.capi.specs.Calls.{after, readFlat, pathFlat, checkFlat, rewriteFlat, beginFlat, runFlat, compileFlat, allowanceFlat};
 
 // Reads a sheet's text into a flat query.
 #[no_mangle]
@@ -111,4 +112,22 @@ pub extern "C" fn capeshard_panel_compile(
         ⌝ }
 {
     capeshard_compile(query, database, store, PANEL_NODES, plan)
+}
+
+// Compiles a flat query into a flat plan, and tells in `out` the product of its number of lines and the panel's row limit.
+#[no_mangle]
+pub extern "C" fn capeshard_panel_allowance(
+    query: &[u32],
+    database: &[u32],
+    store: &[u32],
+    plan: &mut [u32],
+    out: &mut [u32],
+) -> u64
+    ensures { λ r. ⌜
+        (r ≡ status (verdict (allowanceFlat (panelLimits .nodes) (now (query .entry)) (now (database .entry)) (now (store .entry)) (panelLimits .rows) (now (plan .entry)) (now (out .entry)))))
+        × (now (plan .exit) ≡ after flatPlan (allowanceFlat (panelLimits .nodes) (now (query .entry)) (now (database .entry)) (now (store .entry)) (panelLimits .rows) (now (plan .entry)) (now (out .entry))) (now (plan .entry)))
+        × (now (out .exit) ≡ after flatBudget (allowanceFlat (panelLimits .nodes) (now (query .entry)) (now (database .entry)) (now (store .entry)) (panelLimits .rows) (now (plan .entry)) (now (out .entry))) (now (out .entry)))
+        ⌝ }
+{
+    capeshard_allowance(query, database, store, PANEL_NODES, PANEL_ROWS, plan, out)
 }

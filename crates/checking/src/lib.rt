@@ -4,3 +4,4 @@ mod stages; // stages.rt: the check, one stage after the other
 
 pub use stages::check;
 pub use stages::check_query;
+pub use stages::refusal;

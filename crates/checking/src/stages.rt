@@ -31,7 +31,7 @@ ghost use Rattle.query.specs.Shape.{Shaped, Formed};
 ghost use Rattle.checking.specs.CheckStages.{passTerm, checkTerm};
 
 // A refusal, with blank facts.
-fn refusal(query: Query, refusal: Refusal) -> CheckedQuery
+pub fn refusal(query: Query, refusal: Refusal) -> CheckedQuery
     ensures { λ r. ⌜ ((G : Schema) → G .width ≡ columns → r ≡ checkedValue G query (refused refusal)) ⌝ }
 {
     let none = no_variables();

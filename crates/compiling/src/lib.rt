@@ -7,6 +7,7 @@ mod compiler; // compiler.rt: the plan of a checked query
 
 pub use compiler::compile;
 pub use compiler::plan_of;
+pub use lines::blank_plan;
 
 // A plan in the making. In a loop, delta is its delta register and begun the place of its start line; else both are 0. loops: how many loops
 // have begun.

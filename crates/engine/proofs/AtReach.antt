@@ -17,7 +17,7 @@ use Rattle.query.specs.Check.{splitFaults, splitTerm, unless, firstPass, second
 use Rattle.text.specs.Lines.{filled}
 use Rattle.rewrite.specs.Rewrite.{around, rule, endedAt, rewrite}
 use Rattle.plan.specs.Plan.{source, ownLine, loop, pathLines, closedLines, besideLines, planLines}
-use Rattle.machine.specs.Machine.{effectOf, step, run}
+use Rattle.machine.specs.Machine.{effectOf, step, goOn, run}
 use Rattle.machine.specs.Run.{execute, begin, runQuery}
 use Rattle.algebra.specs.declared.Pairing.the-variants.{Join}
 use Rattle.algebra.specs.declared.Condition.the-variants.{Eq}
@@ -64,19 +64,19 @@ over-book : OverColumns columns book steps
 over-book = (same-book, (same-book, tt))
 
 checked : checkOver columns nodeLimit query book store ≡ accepted term
-unfolding every any sift all lowest tabulate with without both pairCols cols free size fixes fixNumbers pairOrigin origin used loopOf over overBoth pairMatch match sharedStable othersUnused stableEnough unusedEnough closedEnough rename written ordered ascend rowsOf entries insert insertAll compatible combined joinRows exceptRows tableStart tableOk checkDatabase checkForm lines push read termOf branches unitedFrom split splitFaults splitTerm unless firstPass secondPass faults checkQuery checkOver filled around rule endedAt rewrite source ownLine loop pathLines closedLines besideLines planLines effectOf step run execute begin runQuery mathlib.Core.List.flatMap
+unfolding every any sift all lowest tabulate with without both pairCols cols free size fixes fixNumbers pairOrigin origin used loopOf over overBoth pairMatch match sharedStable othersUnused stableEnough unusedEnough closedEnough rename written ordered ascend rowsOf entries insert insertAll compatible combined joinRows exceptRows tableStart tableOk checkDatabase checkForm lines push read termOf branches unitedFrom split splitFaults splitTerm unless firstPass secondPass faults checkQuery checkOver filled around rule endedAt rewrite source ownLine loop pathLines closedLines besideLines planLines effectOf step goOn run execute begin runQuery mathlib.Core.List.flatMap
 checked = refl
 
 -- the first step's sheet is held, for the second is refused
 moved : held columns query steps ≡ queryValue (Table 0 ∷ (Filter (Eq 0 1) ∷ reachStep))
-unfolding every any sift all lowest tabulate with without both pairCols cols free size fixes fixNumbers pairOrigin origin used loopOf over overBoth pairMatch match sharedStable othersUnused stableEnough unusedEnough closedEnough rename written ordered ascend rowsOf entries insert insertAll compatible combined joinRows exceptRows tableStart tableOk checkDatabase checkForm lines push read termOf branches unitedFrom split splitFaults splitTerm unless firstPass secondPass faults checkQuery checkOver filled around rule endedAt rewrite source ownLine loop pathLines closedLines besideLines planLines effectOf step run execute begin runQuery mathlib.Core.List.flatMap held
+unfolding every any sift all lowest tabulate with without both pairCols cols free size fixes fixNumbers pairOrigin origin used loopOf over overBoth pairMatch match sharedStable othersUnused stableEnough unusedEnough closedEnough rename written ordered ascend rowsOf entries insert insertAll compatible combined joinRows exceptRows tableStart tableOk checkDatabase checkForm lines push read termOf branches unitedFrom split splitFaults splitTerm unless firstPass secondPass faults checkQuery checkOver filled around rule endedAt rewrite source ownLine loop pathLines closedLines besideLines planLines effectOf step goOn run execute begin runQuery mathlib.Core.List.flatMap held
 moved = refl
 
 abbrev answer : Answer
 answer = record { columns = columnsOf columns (λ c. lib.Dec.ltb c 2); rows = row 1 2 ∷ (row 1 3 ∷ []); ran = 16 }
 
 finishes : runQuery columns (panelLimits .nodes) (held columns query steps) book store 24 1000000 (replicate 4000 7) (replicate 200 7) ≡ accepted answer
-unfolding every any sift all lowest tabulate with without both pairCols cols free size fixes fixNumbers pairOrigin origin used loopOf over overBoth pairMatch match sharedStable othersUnused stableEnough unusedEnough closedEnough rename written ordered ascend rowsOf entries insert insertAll compatible combined joinRows exceptRows tableStart tableOk checkDatabase checkForm lines push read termOf branches unitedFrom split splitFaults splitTerm unless firstPass secondPass faults checkQuery checkOver filled around rule endedAt rewrite source ownLine loop pathLines closedLines besideLines planLines effectOf step run execute begin runQuery mathlib.Core.List.flatMap held
+unfolding every any sift all lowest tabulate with without both pairCols cols free size fixes fixNumbers pairOrigin origin used loopOf over overBoth pairMatch match sharedStable othersUnused stableEnough unusedEnough closedEnough rename written ordered ascend rowsOf entries insert insertAll compatible combined joinRows exceptRows tableStart tableOk checkDatabase checkForm lines push read termOf branches unitedFrom split splitFaults splitTerm unless firstPass secondPass faults checkQuery checkOver filled around rule endedAt rewrite source ownLine loop pathLines closedLines besideLines planLines effectOf step goOn run execute begin runQuery mathlib.Core.List.flatMap held
 finishes = refl
 
 pub reach-answers : Answers columns book store query term answer

@@ -1,6 +1,7 @@
 // The engine: the public functions of all layers, and lists of steps.
 mod steps;
 
+pub use allowance::allowance;
 pub use answering::BYTES_TAKEN;
 pub use answering::answer;
 pub use checking::check;

@@ -13,16 +13,16 @@ use Rattle.query.specs.Check.{splitFaults, splitTerm, unless, firstPass, second
 use Rattle.text.specs.Lines.{filled}
 use Rattle.rewrite.specs.Rewrite.{around, rule, endedAt, rewrite}
 use Rattle.plan.specs.Plan.{source, ownLine, loop, pathLines, closedLines, besideLines, planLines}
-use Rattle.machine.specs.Machine.{effectOf, step, run}
+use Rattle.machine.specs.Machine.{effectOf, step, goOn, run}
 use Rattle.machine.specs.Run.{execute, begin, runQuery}
 use Rattle.engine.specs.Starred.{Case, rewriteAll, ask, shown}
 use Rattle.examples.specs.Values.{Rewriting, rewrites}
 use Rattle.examples.specs.Floors.{floorRewritings, floorCases}
 
 pub floors-come-home : map rewrites floorRewritings ≡ map (λ (x : Rewriting). x .expected) floorRewritings
-unfolding every any sift all lowest tabulate with without both pairCols cols free size fixes fixNumbers pairOrigin origin used loopOf over overBoth pairMatch match sharedStable othersUnused stableEnough unusedEnough closedEnough rename written ordered ascend rowsOf entries insert insertAll compatible combined joinRows exceptRows tableStart tableOk checkDatabase checkForm lines push read termOf branches unitedFrom split splitFaults splitTerm unless firstPass secondPass faults checkQuery checkOver filled around rule endedAt rewrite source ownLine loop pathLines closedLines besideLines planLines effectOf step run execute begin runQuery mathlib.Core.List.flatMap
+unfolding every any sift all lowest tabulate with without both pairCols cols free size fixes fixNumbers pairOrigin origin used loopOf over overBoth pairMatch match sharedStable othersUnused stableEnough unusedEnough closedEnough rename written ordered ascend rowsOf entries insert insertAll compatible combined joinRows exceptRows tableStart tableOk checkDatabase checkForm lines push read termOf branches unitedFrom split splitFaults splitTerm unless firstPass secondPass faults checkQuery checkOver filled around rule endedAt rewrite source ownLine loop pathLines closedLines besideLines planLines effectOf step goOn run execute begin runQuery mathlib.Core.List.flatMap
 floors-come-home = refl
 
 pub floors-answer : map (λ (c : Case). shown (ask c)) floorCases ≡ map (λ (c : Case). c .expected) floorCases
-unfolding every any sift all lowest tabulate with without both pairCols cols free size fixes fixNumbers pairOrigin origin used loopOf over overBoth pairMatch match sharedStable othersUnused stableEnough unusedEnough closedEnough rename written ordered ascend rowsOf entries insert insertAll compatible combined joinRows exceptRows tableStart tableOk checkDatabase checkForm lines push read termOf branches unitedFrom split splitFaults splitTerm unless firstPass secondPass faults checkQuery checkOver filled around rule endedAt rewrite source ownLine loop pathLines closedLines besideLines planLines effectOf step run execute begin runQuery rewriteAll ask mathlib.Core.List.flatMap
+unfolding every any sift all lowest tabulate with without both pairCols cols free size fixes fixNumbers pairOrigin origin used loopOf over overBoth pairMatch match sharedStable othersUnused stableEnough unusedEnough closedEnough rename written ordered ascend rowsOf entries insert insertAll compatible combined joinRows exceptRows tableStart tableOk checkDatabase checkForm lines push read termOf branches unitedFrom split splitFaults splitTerm unless firstPass secondPass faults checkQuery checkOver filled around rule endedAt rewrite source ownLine loop pathLines closedLines besideLines planLines effectOf step goOn run execute begin runQuery rewriteAll ask mathlib.Core.List.flatMap
 floors-answer = refl

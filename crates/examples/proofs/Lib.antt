@@ -3,3 +3,4 @@ pub mod Values
 pub mod Panel
 pub mod OnePiece
 pub mod Floors
+pub mod Allowances

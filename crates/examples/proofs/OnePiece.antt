@@ -12,7 +12,7 @@ use Rattle.query.specs.Lines.{checkForm, lines, push, read, termOf}
 use Rattle.query.specs.Check.{splitFaults, splitTerm, unless, firstPass, secondPass, faults, checkQuery, checkOver}
 use Rattle.rewrite.specs.Rewrite.{around, rule, endedAt, rewrite}
 use Rattle.plan.specs.Plan.{source, ownLine, loop, pathLines, closedLines, besideLines, planLines}
-use Rattle.machine.specs.Machine.{effectOf, step, run}
+use Rattle.machine.specs.Machine.{effectOf, step, goOn, run}
 use Rattle.machine.specs.Run.{execute, begin, runQuery}
 use Rattle.text.specs.Numbers.{bytes, valueFrom, number, digitsBefore, parts, readAll, commaDigits}
 use Rattle.text.specs.Lines.{after, numbersAfter, byForm, byForms, nodeLine, ascending, filled, rowLine, firstLine, due, many}
@@ -28,9 +28,9 @@ unfolding branches unitedFrom split free sift any
 splittings-hold = refl
 
 pub printed-hold : map (λ (e : Example). answerBytes (e .sheet) (e .book) (e .steps)) printed ≡ map (λ (e : Example). e .printed) printed
-unfolding every any sift all lowest tabulate with without both pairCols cols free size fixes fixNumbers pairOrigin origin used loopOf over overBoth pairMatch match sharedStable othersUnused stableEnough unusedEnough closedEnough rename written ordered ascend rowsOf entries insert insertAll compatible combined joinRows exceptRows tableStart tableOk checkDatabase checkForm lines push read termOf branches unitedFrom split splitFaults splitTerm unless firstPass secondPass faults checkQuery checkOver filled around rule endedAt rewrite source ownLine loop pathLines closedLines besideLines planLines effectOf step run execute bytes valueFrom number digitsBefore parts readAll commaDigits after numbersAfter byForm byForms nodeLine ascending rowLine firstLine due many readNodes readRows readTable readTables readDatabase rowsText answerText refusalText loadTables applySteps answer mathlib.Core.List.flatMap
+unfolding every any sift all lowest tabulate with without both pairCols cols free size fixes fixNumbers pairOrigin origin used loopOf over overBoth pairMatch match sharedStable othersUnused stableEnough unusedEnough closedEnough rename written ordered ascend rowsOf entries insert insertAll compatible combined joinRows exceptRows tableStart tableOk checkDatabase checkForm lines push read termOf branches unitedFrom split splitFaults splitTerm unless firstPass secondPass faults checkQuery checkOver filled around rule endedAt rewrite source ownLine loop pathLines closedLines besideLines planLines effectOf step goOn run execute bytes valueFrom number digitsBefore parts readAll commaDigits after numbersAfter byForm byForms nodeLine ascending rowLine firstLine due many readNodes readRows readTable readTables readDatabase rowsText answerText refusalText loadTables applySteps answer mathlib.Core.List.flatMap
 printed-hold = refl
 
 pub rewritings-hold : map rewrites rewritings ≡ map (λ (x : Rewriting). x .expected) rewritings
-unfolding every any sift all lowest tabulate with without both pairCols cols free size fixes fixNumbers pairOrigin origin used loopOf over overBoth pairMatch match sharedStable othersUnused stableEnough unusedEnough closedEnough rename written ordered ascend rowsOf entries insert insertAll compatible combined joinRows exceptRows tableStart tableOk checkDatabase checkForm lines push read termOf branches unitedFrom split splitFaults splitTerm unless firstPass secondPass faults checkQuery checkOver filled around rule endedAt rewrite source ownLine loop pathLines closedLines besideLines planLines effectOf step run execute begin runQuery mathlib.Core.List.flatMap
+unfolding every any sift all lowest tabulate with without both pairCols cols free size fixes fixNumbers pairOrigin origin used loopOf over overBoth pairMatch match sharedStable othersUnused stableEnough unusedEnough closedEnough rename written ordered ascend rowsOf entries insert insertAll compatible combined joinRows exceptRows tableStart tableOk checkDatabase checkForm lines push read termOf branches unitedFrom split splitFaults splitTerm unless firstPass secondPass faults checkQuery checkOver filled around rule endedAt rewrite source ownLine loop pathLines closedLines besideLines planLines effectOf step goOn run execute begin runQuery mathlib.Core.List.flatMap
 rewritings-hold = refl

@@ -12,7 +12,7 @@ use Rattle.query.specs.Lines.{checkForm, lines, push, read, termOf}
 use Rattle.query.specs.Check.{splitFaults, splitTerm, unless, firstPass, secondPass, faults, checkQuery, checkOver}
 use Rattle.rewrite.specs.Rewrite.{around, rule, endedAt, rewrite}
 use Rattle.plan.specs.Plan.{source, ownLine, loop, pathLines, closedLines, besideLines, planLines}
-use Rattle.machine.specs.Machine.{effectOf, step, run}
+use Rattle.machine.specs.Machine.{effectOf, step, goOn, run}
 use Rattle.machine.specs.Run.{execute}
 use Rattle.text.specs.Numbers.{bytes, valueFrom, number, digitsBefore, parts, readAll, commaDigits}
 use Rattle.text.specs.Lines.{after, numbersAfter, byForm, byForms, nodeLine, ascending, filled, rowLine, firstLine, due, many}
@@ -25,13 +25,13 @@ abbrev prints : Example → List Prim.Native.Nat.ℕ
 prints e = answerBytes (e .sheet) (e .book) (e .steps)
 
 pub numbers-hold : map prints numbers ≡ map (λ (e : Example). e .printed) numbers
-unfolding every any sift all lowest tabulate with without both pairCols cols free size fixes fixNumbers pairOrigin origin used loopOf over overBoth pairMatch match sharedStable othersUnused stableEnough unusedEnough closedEnough rename written ordered ascend rowsOf entries insert insertAll compatible combined joinRows exceptRows tableStart tableOk checkDatabase checkForm lines push read termOf branches unitedFrom split splitFaults splitTerm unless firstPass secondPass faults checkQuery checkOver filled around rule endedAt rewrite source ownLine loop pathLines closedLines besideLines planLines effectOf step run execute bytes valueFrom number digitsBefore parts readAll commaDigits after numbersAfter byForm byForms nodeLine ascending rowLine firstLine due many readNodes readRows readTable readTables readDatabase rowsText answerText refusalText loadTables applySteps answer mathlib.Core.List.flatMap
+unfolding every any sift all lowest tabulate with without both pairCols cols free size fixes fixNumbers pairOrigin origin used loopOf over overBoth pairMatch match sharedStable othersUnused stableEnough unusedEnough closedEnough rename written ordered ascend rowsOf entries insert insertAll compatible combined joinRows exceptRows tableStart tableOk checkDatabase checkForm lines push read termOf branches unitedFrom split splitFaults splitTerm unless firstPass secondPass faults checkQuery checkOver filled around rule endedAt rewrite source ownLine loop pathLines closedLines besideLines planLines effectOf step goOn run execute bytes valueFrom number digitsBefore parts readAll commaDigits after numbersAfter byForm byForms nodeLine ascending rowLine firstLine due many readNodes readRows readTable readTables readDatabase rowsText answerText refusalText loadTables applySteps answer mathlib.Core.List.flatMap
 numbers-hold = refl
 
 pub answers-hold : map prints answers ≡ map (λ (e : Example). e .printed) answers
-unfolding every any sift all lowest tabulate with without both pairCols cols free size fixes fixNumbers pairOrigin origin used loopOf over overBoth pairMatch match sharedStable othersUnused stableEnough unusedEnough closedEnough rename written ordered ascend rowsOf entries insert insertAll compatible combined joinRows exceptRows tableStart tableOk checkDatabase checkForm lines push read termOf branches unitedFrom split splitFaults splitTerm unless firstPass secondPass faults checkQuery checkOver filled around rule endedAt rewrite source ownLine loop pathLines closedLines besideLines planLines effectOf step run execute bytes valueFrom number digitsBefore parts readAll commaDigits after numbersAfter byForm byForms nodeLine ascending rowLine firstLine due many readNodes readRows readTable readTables readDatabase rowsText answerText refusalText loadTables applySteps answer mathlib.Core.List.flatMap
+unfolding every any sift all lowest tabulate with without both pairCols cols free size fixes fixNumbers pairOrigin origin used loopOf over overBoth pairMatch match sharedStable othersUnused stableEnough unusedEnough closedEnough rename written ordered ascend rowsOf entries insert insertAll compatible combined joinRows exceptRows tableStart tableOk checkDatabase checkForm lines push read termOf branches unitedFrom split splitFaults splitTerm unless firstPass secondPass faults checkQuery checkOver filled around rule endedAt rewrite source ownLine loop pathLines closedLines besideLines planLines effectOf step goOn run execute bytes valueFrom number digitsBefore parts readAll commaDigits after numbersAfter byForm byForms nodeLine ascending rowLine firstLine due many readNodes readRows readTable readTables readDatabase rowsText answerText refusalText loadTables applySteps answer mathlib.Core.List.flatMap
 answers-hold = refl
 
 pub edges-hold : map prints edges ≡ map (λ (e : Example). e .printed) edges
-unfolding every any sift all lowest tabulate with without both pairCols cols free size fixes fixNumbers pairOrigin origin used loopOf over overBoth pairMatch match sharedStable othersUnused stableEnough unusedEnough closedEnough rename written ordered ascend rowsOf entries insert insertAll compatible combined joinRows exceptRows tableStart tableOk checkDatabase checkForm lines push read termOf branches unitedFrom split splitFaults splitTerm unless firstPass secondPass faults checkQuery checkOver filled around rule endedAt rewrite source ownLine loop pathLines closedLines besideLines planLines effectOf step run execute bytes valueFrom number digitsBefore parts readAll commaDigits after numbersAfter byForm byForms nodeLine ascending rowLine firstLine due many readNodes readRows readTable readTables readDatabase rowsText answerText refusalText loadTables applySteps answer mathlib.Core.List.flatMap
+unfolding every any sift all lowest tabulate with without both pairCols cols free size fixes fixNumbers pairOrigin origin used loopOf over overBoth pairMatch match sharedStable othersUnused stableEnough unusedEnough closedEnough rename written ordered ascend rowsOf entries insert insertAll compatible combined joinRows exceptRows tableStart tableOk checkDatabase checkForm lines push read termOf branches unitedFrom split splitFaults splitTerm unless firstPass secondPass faults checkQuery checkOver filled around rule endedAt rewrite source ownLine loop pathLines closedLines besideLines planLines effectOf step goOn run execute bytes valueFrom number digitsBefore parts readAll commaDigits after numbersAfter byForm byForms nodeLine ascending rowLine firstLine due many readNodes readRows readTable readTables readDatabase rowsText answerText refusalText loadTables applySteps answer mathlib.Core.List.flatMap
 edges-hold = refl

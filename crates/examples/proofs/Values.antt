@@ -13,14 +13,14 @@ use Rattle.query.specs.Check.{splitFaults, splitTerm, unless, firstPass, second
 use Rattle.text.specs.Lines.{filled}
 use Rattle.rewrite.specs.Rewrite.{around, rule, endedAt, rewrite}
 use Rattle.plan.specs.Plan.{source, ownLine, loop, pathLines, closedLines, besideLines, planLines}
-use Rattle.machine.specs.Machine.{effectOf, step, run}
+use Rattle.machine.specs.Machine.{effectOf, step, goOn, run}
 use Rattle.machine.specs.Run.{execute, begin, runQuery}
 use Rattle.examples.specs.Values.{Rewriting, rewrites, rewritings, Expected, runs, runnings}
 
 pub rewritings-hold : map rewrites rewritings ≡ map (λ (x : Rewriting). x .expected) rewritings
-unfolding every any sift all lowest tabulate with without both pairCols cols free size fixes fixNumbers pairOrigin origin used loopOf over overBoth pairMatch match sharedStable othersUnused stableEnough unusedEnough closedEnough rename written ordered ascend rowsOf entries insert insertAll compatible combined joinRows exceptRows tableStart tableOk checkDatabase checkForm lines push read termOf branches unitedFrom split splitFaults splitTerm unless firstPass secondPass faults checkQuery checkOver filled around rule endedAt rewrite source ownLine loop pathLines closedLines besideLines planLines effectOf step run execute begin runQuery mathlib.Core.List.flatMap
+unfolding every any sift all lowest tabulate with without both pairCols cols free size fixes fixNumbers pairOrigin origin used loopOf over overBoth pairMatch match sharedStable othersUnused stableEnough unusedEnough closedEnough rename written ordered ascend rowsOf entries insert insertAll compatible combined joinRows exceptRows tableStart tableOk checkDatabase checkForm lines push read termOf branches unitedFrom split splitFaults splitTerm unless firstPass secondPass faults checkQuery checkOver filled around rule endedAt rewrite source ownLine loop pathLines closedLines besideLines planLines effectOf step goOn run execute begin runQuery mathlib.Core.List.flatMap
 rewritings-hold = refl
 
 pub runnings-hold : map (λ (x : Expected). runs (x .running)) runnings ≡ map (λ (x : Expected). x .ending) runnings
-unfolding every any sift all lowest tabulate with without both pairCols cols free size fixes fixNumbers pairOrigin origin used loopOf over overBoth pairMatch match sharedStable othersUnused stableEnough unusedEnough closedEnough rename written ordered ascend rowsOf entries insert insertAll compatible combined joinRows exceptRows tableStart tableOk checkDatabase checkForm lines push read termOf branches unitedFrom split splitFaults splitTerm unless firstPass secondPass faults checkQuery checkOver filled around rule endedAt rewrite source ownLine loop pathLines closedLines besideLines planLines effectOf step run execute begin runQuery mathlib.Core.List.flatMap
+unfolding every any sift all lowest tabulate with without both pairCols cols free size fixes fixNumbers pairOrigin origin used loopOf over overBoth pairMatch match sharedStable othersUnused stableEnough unusedEnough closedEnough rename written ordered ascend rowsOf entries insert insertAll compatible combined joinRows exceptRows tableStart tableOk checkDatabase checkForm lines push read termOf branches unitedFrom split splitFaults splitTerm unless firstPass secondPass faults checkQuery checkOver filled around rule endedAt rewrite source ownLine loop pathLines closedLines besideLines planLines effectOf step goOn run execute begin runQuery mathlib.Core.List.flatMap
 runnings-hold = refl

@@ -24,7 +24,7 @@ use Rattle.query.specs.Lines.{nodeLimit, nodes, line}
 use Rattle.machine.specs.declared.Outcome.{Outcome}
 use Rattle.machine.specs.declared.Outcome.the-variants.{Finished}
 use Rattle.machine.specs.declared.Outcome.the-variants as run
-use Rattle.machine.specs.Run.{Answer}
+use Rattle.machine.specs.Run.{Answer, Enough}
 use Rattle.plan.specs.declared.Op.{Op}
 use Rattle.plan.specs.declared.Op.the-variants as plan
 use Rattle.plan.specs.declared.Slot.{Slot}
@@ -193,6 +193,16 @@ slotOf s =
 
 abbrev pub flatSlots : List Slot → List ℕ
 flatSlots slots = length slots ∷ flatMap slotOf slots
+
+-- a plan beside the budget that is enough for it: the plan as above, and the budget in a slice of its own
+abbrev pub allowanceRoom : ℕ
+allowanceRoom = 1
+
+abbrev pub flatPlan : Enough → List ℕ
+flatPlan e = flatSlots (e .plan)
+
+abbrev pub flatBudget : Enough → List ℕ
+flatBudget e = e .budget ∷ []
 
 abbrev pub planSlots : Plan → List Slot
 planSlots p = take (p .count) (p .ops)

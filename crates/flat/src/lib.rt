@@ -12,6 +12,8 @@
 // A plan takes PLAN_ROOM entries: its line count, then seven a line, namely a code, the register that it writes, three numbers in the order of the
 // fields of plan::Op, and the columns of a pair's operands. The codes are those of the node lines; 13 is a fix's own line, 14 its start, which no node line has.
 //
+// An allowance takes one entry.
+//
 // A verdict is 0 if it accepts, else the refusal's number times 2^32 and its place; a place over 4,294,967,295 is given as that.
 mod decode; // decode.rt: from flat slices to values
 pub mod encode; // encode.rt: from values to flat slices
@@ -41,6 +43,8 @@ pub const RUN_ROOM: usize = 3;
 pub const SLOT_ENTRIES: usize = 7;
 
 pub const PLAN_ROOM: usize = 1 + SLOT_ENTRIES * NODES;
+
+pub const ALLOWANCE_ROOM: usize = 1;
 
 // A plan line as a code and four numbers.
 pub struct FlatOp {

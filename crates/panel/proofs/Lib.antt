@@ -1,3 +1,4 @@
 pub mod PanelIsDesk
 pub mod ServesBoth
 pub mod PanelSpace
+pub mod PanelAllowance

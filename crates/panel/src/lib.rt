@@ -1,4 +1,5 @@
 // The wall panel: the desk's functions at the panel's limits. No function here takes a node limit or a row limit, so 16 never arises.
+use allowance::Allowed;
 use compiling::Compiled;
 use database::Database;
 use machine::Ran;
@@ -8,10 +9,15 @@ use relation::COLUMNS;
 use rewrite::Rewritten;
 use text::ReadQuery;
 ghost use mathlib.Core.Path.{_≡_};
+ghost use mathlib.Core.Logic.{_≢_};
+ghost use mathlib.Core.List.{List};
 ghost use Prim.Native.Nat.{ℕ, _≤_};
 ghost use lib.ListN.{length};
 ghost use Rattle.relation.specs.Rows.{columns, rowsOf};
+ghost use Rattle.database.specs.declared.Refusal.the-variants.{BudgetSpent};
+ghost use Rattle.database.specs.declared.Verdict.the-variants.{Accepted};
 ghost use Rattle.database.specs.Stored.{schema};
+ghost use Rattle.database.specs.Refusals.{refused};
 ghost use Rattle.query.specs.Check.{checkOver};
 ghost use Rattle.query.specs.Facts.{checkedValue};
 ghost use Rattle.text.specs.Texts.{readNodes};
@@ -22,7 +28,8 @@ ghost use Rattle.plan.specs.Plan.{compile};
 ghost use Rattle.compiling.specs.Compiled.{compiledValue};
 ghost use Rattle.machine.specs.declared.Outcome.the-variants.{Finished};
 ghost use Rattle.machine.specs.Limits.{panelLimits};
-ghost use Rattle.machine.specs.Run.{begin, runQuery, ranOf, answerAfter, workspaceAfter};
+ghost use Rattle.machine.specs.Run.{allowance, begin, runQuery, ranOf, answerAfter, workspaceAfter};
+ghost use Rattle.allowance.specs.Allowances.{allowanceValue};
 ghost use Rattle.run.specs.Answered.{Means};
 ghost use Rattle.engine.specs.Demands.{leftBy};
 
@@ -70,6 +77,16 @@ pub fn compile(query: Query, database: Database, store: &[u32]) -> Compiled
     ensures { λ r. ⌜ r ≡ compiledValue (compile columns (panelLimits .nodes) query database (now (store .entry))) ⌝ }
 {
     compiling::compile(query, database, store, PANEL_NODES)
+}
+
+// The plan of a checked query, with the product of its number of lines and the panel's L: by the clause `enough` a run with this budget or more is never
+// refused with 19.
+pub fn allowance(query: Query, database: Database, store: &[u32]) -> Allowed
+    ensures { λ r. ⌜ r ≡ allowanceValue (allowance columns (panelLimits .nodes) query database (now (store .entry)) (panelLimits .rows)) ⌝ }
+    ensures enough { λ r. ⌜ (r .verdict ≡ Accepted → (budget : ℕ) → r .budget ≤ budget → (workspace answer : List ℕ)
+        → runQuery columns (panelLimits .nodes) query database (now (store .entry)) (panelLimits .rows) budget workspace answer ≢ refused BudgetSpent) ⌝ }
+{
+    allowance::allowance(query, database, store, PANEL_NODES, PANEL_ROWS)
 }
 
 // A query's run over a stored book: a register of 65 rows gives 18. The clause `meaning` is demand 2; by the clause `enough` a run that lends
