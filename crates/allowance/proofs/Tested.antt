@@ -15,7 +15,7 @@ use Rattle.query.specs.declared.CheckedQuery.{CheckedQuery}
 use Rattle.query.specs.Facts.{checkedValue}
 use Rattle.checking.proofs.Handed.{Handed, sheet-handed}
 use Rattle.machine.specs.Run.{runnable}
-use Rattle.machine.proofs.Passed.{Passed, passed, passes, passes-as}
+use Rattle.machine.proofs.Passed.{passed, passes, passes-as}
 
 -- of a query that passes
 pub record Tested (limit : ℕ) (q : Query) (d : Database) (store : List ℕ) (L : ℕ) (x : CheckedQuery) : Type 0 where

@@ -9,7 +9,7 @@ use Rattle.algebra.specs.Term.{Term}
 use Rattle.relation.specs.Rows.{columns}
 use Rattle.database.specs.declared.Database.{Database}
 use Rattle.database.specs.declared.Refusal.the-variants.{BudgetSpent}
-use Rattle.database.specs.Stored.{rowsLimit, schema, tableRows}
+use Rattle.database.specs.Stored.{schema, tableRows}
 use Rattle.database.specs.Refusals.{refused, accepted}
 use Rattle.query.specs.declared.Query.{Query}
 use Rattle.query.specs.Check.{checkOver}

@@ -17,7 +17,7 @@ use Rattle.machine.specs.Machine.{start, linesRun, goOn}
 use Rattle.machine.specs.Run.{Enough, allowance}
 use Rattle.machine.specs.Limits.{Limits, deskLimits, panelLimits}
 use Rattle.engine.specs.Starred.{row, doors, reach}
-use Rattle.examples.specs.Values.{copied, counted, empty}
+use Rattle.examples.specs.Values.{counted, empty}
 
 -- the plan's number of lines, the product, and the lines that a run with that budget runs; or number and place
 pub data Telling : Type 0 where
