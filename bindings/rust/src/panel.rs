@@ -1,7 +1,9 @@
 //! The wall panel: the desk's queries with less memory. Its functions take at most [`NODES`] nodes, fewer than those of [`Query`], and the row limit is
 //! [`ROWS`]. A query of at most [`NODES`] nodes serves both, whichever rewrote it; where both finish a run, their answers are the same.
 
-use crate::{calls, reply, Allowance, Answer, Database, PlanLine, Query, Refusal, ALLOWANCE_ROOM, COLUMNS, PLAN_ROOM, RUN_ROOM};
+use crate::{
+    calls, reply, Allowance, Answer, Database, PlanLine, Query, Refusal, ALLOWANCE_ROOM, COLUMNS, PLAN_ROOM, RUN_ROOM,
+};
 
 /// The most nodes of a query.
 pub const NODES: usize = 32;

@@ -1,11 +1,12 @@
 //! A call of include/capeshard.h, made of the engine and worked out by the reference.
 
 use crate::slices::{
-    bits_of, database_of, flat_database, flat_plan, flat_query, over, query_of, Slices, DATABASE_ROOM, PLAN_ROOM,
-    QUERY_ROOM, RUN_ROOM,
+    bits_of, database_of, flat_database, flat_plan, flat_query, over, query_of, Slices, ALLOWANCE_ROOM, DATABASE_ROOM,
+    PLAN_ROOM, QUERY_ROOM, RUN_ROOM,
 };
 use capeshard::calls;
-use reference::check::check;
+use reference::allowance::{allowance, Allowance};
+use reference::check::{check, Checked};
 use reference::panel;
 use reference::paths::read_path;
 use reference::rewrite::rewrite;
@@ -21,12 +22,14 @@ pub enum Call {
     Check { limit: usize },
     Rewrite { limit: usize, kind: u32, node: u32 },
     Compile { limit: usize },
+    Allowance { limit: usize, rows: usize },
     Run { limit: usize, rows: usize, budget: u32 },
     PanelReadQuery,
     PanelReadPath,
     PanelCheck,
     PanelRewrite { kind: u32, node: u32 },
     PanelCompile,
+    PanelAllowance,
     PanelRun { budget: u32 },
 }
 
@@ -47,12 +50,13 @@ impl Call {
             &mut lent.database,
             &mut lent.store,
             &mut lent.plan,
+            &mut lent.allowance,
             &mut lent.workspace,
             &mut lent.answer,
             &mut lent.told,
         ];
         let mut held = slices.each_ref().map(|slice| guarded(slice));
-        let [query, database, store, plan, workspace, answer, told] = held.each_mut().map(|slice| {
+        let [query, database, store, plan, allowance, workspace, answer, told] = held.each_mut().map(|slice| {
             let length = slice.len() - 2 * GUARD;
             (slice[GUARD..].as_mut_ptr(), length)
         });
@@ -84,6 +88,20 @@ impl Call {
                 ),
                 Call::Compile { limit } => calls::capeshard_compile(
                     query.0, query.1, database.0, database.1, store.0, store.1, limit, plan.0, plan.1,
+                ),
+                Call::Allowance { limit, rows } => calls::capeshard_allowance(
+                    query.0,
+                    query.1,
+                    database.0,
+                    database.1,
+                    store.0,
+                    store.1,
+                    limit,
+                    rows,
+                    plan.0,
+                    plan.1,
+                    allowance.0,
+                    allowance.1,
                 ),
                 Call::Run { limit, rows, budget } => calls::capeshard_run(
                     query.0,
@@ -122,6 +140,18 @@ impl Call {
                 Call::PanelCompile => calls::capeshard_panel_compile(
                     query.0, query.1, database.0, database.1, store.0, store.1, plan.0, plan.1,
                 ),
+                Call::PanelAllowance => calls::capeshard_panel_allowance(
+                    query.0,
+                    query.1,
+                    database.0,
+                    database.1,
+                    store.0,
+                    store.1,
+                    plan.0,
+                    plan.1,
+                    allowance.0,
+                    allowance.1,
+                ),
                 Call::PanelRun { budget } => calls::capeshard_panel_run(
                     query.0,
                     query.1,
@@ -153,12 +183,14 @@ impl Call {
     fn short(self, lent: &Slices) -> bool {
         let query = lent.query.len() < QUERY_ROOM;
         let either = query || lent.database.len() < DATABASE_ROOM;
+        let plan = lent.plan.len() < PLAN_ROOM;
         match self {
             Call::ReadQuery { .. } | Call::PanelReadQuery => query,
             Call::ReadPath { .. } | Call::PanelReadPath => either,
             Call::ReadDatabase => lent.database.len() < DATABASE_ROOM,
             Call::Check { .. } | Call::Rewrite { .. } | Call::PanelCheck | Call::PanelRewrite { .. } => either,
-            Call::Compile { .. } | Call::PanelCompile => either || lent.plan.len() < PLAN_ROOM,
+            Call::Compile { .. } | Call::PanelCompile => either || plan,
+            Call::Allowance { .. } | Call::PanelAllowance => either || plan || lent.allowance.len() < ALLOWANCE_ROOM,
             Call::Run { .. } | Call::PanelRun { .. } => either || lent.told.len() < RUN_ROOM,
         }
     }
@@ -193,10 +225,14 @@ impl Call {
                 database.form()?;
                 over(&flat_plan(&check(&query, database.schema())?), &mut lent.plan);
             }
+            Call::Allowance { limit, rows } => {
+                let (database, query) = given(lent, limit);
+                let found = allowance(&database, &query, row_limit_of(rows))?;
+                put_allowance(check(&query, database.schema())?, found, lent);
+            }
             Call::Run { limit, rows, budget } => {
                 let (database, query) = given(lent, limit);
-                // A limit that the reference's number cannot hold is as much too high as its highest.
-                let rows = u32::try_from(rows).unwrap_or(u32::MAX);
+                let rows = row_limit_of(rows);
                 put_told(run(&database, &query, rows, budget, &mut lent.workspace, &mut lent.answer)?, lent);
             }
             Call::PanelReadQuery => put_query(panel::read(&lent.text)?, lent),
@@ -216,6 +252,11 @@ impl Call {
                 let (database, query) = given(lent, NODES);
                 over(&flat_plan(&panel::check(&database, &query)?), &mut lent.plan);
             }
+            Call::PanelAllowance => {
+                let (database, query) = given(lent, NODES);
+                let found = panel::allowance(&database, &query)?;
+                put_allowance(panel::check(&database, &query)?, found, lent);
+            }
             Call::PanelRun { budget } => {
                 let (database, query) = given(lent, NODES);
                 put_told(panel::run(&database, &query, budget, &mut lent.workspace, &mut lent.answer)?, lent);
@@ -230,8 +271,18 @@ fn given(lent: &Slices, limit: usize) -> (Database, Query) {
     (database_of(&lent.database, &lent.store), query_of(&lent.query, limit))
 }
 
+/// A row limit that the reference's number cannot hold is as much too high as its highest.
+fn row_limit_of(rows: usize) -> u32 {
+    u32::try_from(rows).unwrap_or(u32::MAX)
+}
+
 fn put_query(query: Query, lent: &mut Slices) {
     over(&flat_query(query.lines()), &mut lent.query);
+}
+
+fn put_allowance(checked: Checked, found: Allowance, lent: &mut Slices) {
+    over(&flat_plan(&checked), &mut lent.plan);
+    over(&[found.budget], &mut lent.allowance);
 }
 
 fn put_told(told: Answer, lent: &mut Slices) {

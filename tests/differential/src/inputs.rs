@@ -19,7 +19,7 @@ pub type Input = (Call, Slices);
 /// Steps a query that are taken of those that fit.
 const FITTING: usize = 6;
 /// Row limit and budget of the run that tells what others need.
-const FREE: (usize, u32) = (400, 4000);
+pub const FREE: (usize, u32) = (400, 4000);
 
 impl At {
     fn read_query(self, random: &mut Random, nodes: usize) -> Call {
@@ -69,7 +69,7 @@ fn queries(random: &mut Random, at: At, query: &Query, database: &Database) -> V
     found
 }
 
-fn for_desk(random: &mut Random) -> (Database, Query) {
+pub fn for_desk(random: &mut Random) -> (Database, Query) {
     let mut database = random::database(random);
     if random.once_in(8) {
         database = denser(random, &database);
@@ -184,7 +184,7 @@ pub fn lent(random: &mut Random, begins: &[u32], room: usize) -> Vec<u32> {
     slice
 }
 
-fn limit(random: &mut Random, nodes: usize) -> usize {
+pub fn limit(random: &mut Random, nodes: usize) -> usize {
     match random.below(24) {
         0 => nodes,
         1 => nodes.saturating_sub(1),
@@ -258,7 +258,7 @@ pub fn shortest(random: &mut Random) -> Vec<Input> {
     found
 }
 
-fn over(random: &mut Random, query: &Query, database: &Database) -> Slices {
+pub fn over(random: &mut Random, query: &Query, database: &Database) -> Slices {
     Slices {
         query: lent(random, &flat_query(query.lines()), QUERY_ROOM),
         database: lent(random, &flat_database(database), DATABASE_ROOM),
@@ -279,7 +279,7 @@ pub fn harm(random: &mut Random, slice: &mut [u32], used: usize) {
 }
 
 /// Slices with something off the form, in one of the ways that there are or in several.
-fn damaged(random: &mut Random, query: &Query, database: &Database) -> Slices {
+pub fn damaged(random: &mut Random, query: &Query, database: &Database) -> Slices {
     let ways = 1 + random.below(15);
     let way = |bit: usize| ways >> bit & 1 == 1;
     let query = if way(0) { harmed(random, query) } else { query.clone() };
@@ -381,7 +381,7 @@ fn runs(random: &mut Random, at: At, query: &Query, database: &Database) -> Vec<
 }
 
 /// The query with steps, or with edits that often leave it checked.
-fn again(random: &mut Random, query: &Query, database: &Database) -> Query {
+pub fn again(random: &mut Random, query: &Query, database: &Database) -> Query {
     if random.once_in(3) {
         return harmed(random, query);
     }

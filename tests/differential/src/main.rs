@@ -1,8 +1,9 @@
 //! Compares the engine with the reference, call by call: `differential SEED COUNT` on the inputs of COUNT seeds from SEED
-//! on. A case is one call: the reply and all lent slices afterwards, or the rows of a path's run beside what the path links. A
-//! difference prints its seed and both sides. Then texts of at most one byte, the rows and lines run of each workload of
-//! bench/, and texts with each byte at each place. The last line is 'N passed, M failed'.
+//! on. A case is one call: the reply and all lent slices afterwards, the rows of a path's run beside what the path links, or the
+//! lines of a run beside the product. A difference prints its seed and both sides. Then texts of at most one byte, the rows and
+//! lines run of each workload of bench/, and texts with each byte at each place. The last line is 'N passed, M failed'.
 
+mod allowance;
 mod at;
 mod call;
 mod inputs;
@@ -16,6 +17,7 @@ mod wrapper;
 use call::Call;
 use inputs::Input;
 use reference::random::Random;
+use reference::value::Refusal;
 use slices::Slices;
 use std::process::ExitCode;
 use tally::Tally;
@@ -23,15 +25,20 @@ use tally::Tally;
 const SEED: u64 = 1;
 const COUNT: u64 = 1500;
 
-/// One case: the slices that the engine left, if both sides accept.
-fn compared(tally: &mut Tally, call: Call, before: &Slices) -> Option<Slices> {
+/// One case: the slices that the engine left if both sides accept, else a refusal.
+fn replied(tally: &mut Tally, call: Call, before: &Slices) -> Result<Slices, Refusal> {
     let (mut due, mut left) = (before.clone(), before.clone());
     let expected = call.by_reference(&mut due);
     let replied = call.by_engine(&mut left);
     tally.meet(call, expected, before, &due);
     let found = (replied, left);
     tally.case(|| format!("{call:?} of {before:?}"), &(expected, due), &found);
-    (expected.is_ok() && replied.is_ok()).then_some(found.1)
+    expected.and(replied).map(|()| found.1)
+}
+
+/// One case: the slices that the engine left, if both sides accept.
+fn compared(tally: &mut Tally, call: Call, before: &Slices) -> Option<Slices> {
+    replied(tally, call, before).ok()
 }
 
 fn calls(tally: &mut Tally, inputs: Vec<Input>) {
@@ -56,6 +63,7 @@ fn main() -> ExitCode {
         tally.seed = seed;
         calls(&mut tally, inputs::inputs(&mut Random::new(seed)));
         paths::cases(&mut Random::new(seed), &mut tally);
+        allowance::cases(&mut Random::new(seed), &mut tally);
         wrapper::cases(&mut Random::new(seed), &mut tally);
     }
     calls(&mut tally, inputs::shortest(&mut Random::new(seed)));

@@ -14,6 +14,7 @@ pub const DATABASE_ROOM: usize = 1 + TABLE * TABLES as usize;
 pub const RUN_ROOM: usize = 3;
 pub const SLOT: usize = 7;
 pub const PLAN_ROOM: usize = 1 + SLOT * NODES;
+pub const ALLOWANCE_ROOM: usize = 1;
 
 /// Whatever a call takes; what it does not take stays empty.
 #[derive(Clone, Debug, Default, PartialEq, Eq)]
@@ -23,6 +24,7 @@ pub struct Slices {
     pub database: Vec<u32>,
     pub store: Vec<u32>,
     pub plan: Vec<u32>,
+    pub allowance: Vec<u32>,
     pub workspace: Vec<u32>,
     pub answer: Vec<u32>,
     pub told: Vec<u32>,
@@ -143,9 +145,12 @@ fn slot_of(line: &Line, checked: &Checked) -> [u32; SLOT] {
 
 /// The columns of a pair's operands.
 pub fn operand_columns<'a>(line: &Line, checked: &'a Checked) -> Option<[&'a Columns; 2]> {
+    if !matches!(line.operation, Operation::Pair(_)) {
+        return None;
+    }
     let nodes = checked.root.nodes();
     let term = nodes.iter().find(|term| term.node == line.destination + 1)?;
-    matches!(line.operation, Operation::Pair(_)).then(|| [0, 1].map(|operand| checked.columns(&term.operands[operand])))
+    Some([0, 1].map(|operand| checked.columns(&term.operands[operand])))
 }
 
 pub fn flat_plan(checked: &Checked) -> Vec<u32> {

@@ -1,5 +1,6 @@
 //! The cases passed and failed, and what the calls met.
 
+use crate::allowance;
 use crate::call::Call;
 use crate::paths;
 use crate::slices::{database_of, has_mu, query_of, Slices};
@@ -12,10 +13,10 @@ use std::fmt::Debug;
 const SHOWN: u64 = 20;
 
 /// Calls of the header that are made at the desk; those after them are the panel's.
-const DESK_CALLS: usize = 7;
-const CALLS: usize = 13;
+const DESK_CALLS: usize = 8;
+const CALLS: usize = 15;
 /// The calls that meet no `mu`: those that read a path or a database.
-const WITHOUT_MU: [usize; 3] = [1, 2, 8];
+const WITHOUT_MU: [usize; 3] = [1, 2, 9];
 
 #[derive(Default)]
 pub struct Tally {
@@ -44,6 +45,7 @@ pub struct Tally {
     /// Finished runs over a database that was read from zero bytes.
     pub empty: u64,
     pub paths: paths::Met,
+    pub allowance: allowance::Met,
 }
 
 impl Tally {
@@ -70,13 +72,15 @@ impl Tally {
             Call::Check { .. } => 3,
             Call::Rewrite { .. } => 4,
             Call::Compile { .. } => 5,
-            Call::Run { .. } => 6,
-            Call::PanelReadQuery => 7,
-            Call::PanelReadPath => 8,
-            Call::PanelCheck => 9,
-            Call::PanelRewrite { .. } => 10,
-            Call::PanelCompile => 11,
-            Call::PanelRun { .. } => 12,
+            Call::Allowance { .. } => 6,
+            Call::Run { .. } => 7,
+            Call::PanelReadQuery => 8,
+            Call::PanelReadPath => 9,
+            Call::PanelCheck => 10,
+            Call::PanelRewrite { .. } => 11,
+            Call::PanelCompile => 12,
+            Call::PanelAllowance => 13,
+            Call::PanelRun { .. } => 14,
         };
         let at = usize::from(sort >= DESK_CALLS);
         match reply {
@@ -105,6 +109,7 @@ impl Tally {
             (Err(refusal), Call::Run { .. } | Call::PanelRun { .. }) => {
                 self.runs[at][refusal.number as usize] += 1;
             }
+            (_, Call::Allowance { .. } | Call::PanelAllowance) => self.allowance.meet(at, call, reply, given),
             _ => {}
         }
     }
@@ -157,13 +162,14 @@ impl Tally {
         println!("filters over a column that holds 0: {}", self.unknown);
         println!("finished runs over a database read from zero bytes: {}", self.empty);
         self.paths.print();
+        self.allowance.print();
     }
 
     /// A case of its own: every call was accepted and at desk and panel every kind; every number was given, 16 never at the
     /// panel; runs were refused over each limit, and at the panel some finished with the most nodes and rows; filters met 0, and
     /// runs finished over a book of zero bytes. Queries with a `mu` met every call but those that read a path or a database and
     /// every kind, 20 at both, and 3 to 10 at one or the other. Columns came home under every kind that asks for stable ones, and
-    /// 13 had every cause at desk and panel. Paths met what they had to.
+    /// 13 had every cause at desk and panel. Paths and products met what they had to.
     pub fn all_met(&mut self) {
         let accepted = self.accepted.iter().chain(self.kinds.iter().flat_map(|kinds| &kinds[1..]));
         let given = self.numbers[0][1..].iter();
@@ -178,12 +184,13 @@ impl Tally {
         let met = accepted.chain(given).chain(refused).chain(mus).chain(mu_kinds).chain(homes).all(|times| *times > 0);
         let most = self.most[1][..2] == [panel::NODES as u32, panel::ROW_LIMIT];
         let zeros = self.unknown > 0 && self.empty > 0;
-        if met && mu_numbers && self.numbers[1][16] == 0 && most && zeros && self.paths.all_met() {
+        let requests = self.paths.all_met() && self.allowance.all_met();
+        if met && mu_numbers && self.numbers[1][16] == 0 && most && zeros && requests {
             self.passed += 1;
         } else {
             println!(
                 "FAILED every call and kind is accepted, every number given, every limit, 0 under filters, an empty book, mu, \
-                columns that come home and paths met"
+                columns that come home, paths and products met"
             );
             self.failed += 1;
         }

@@ -5,8 +5,9 @@ use crate::inputs::{for_panel, shortest_texts};
 use crate::paths::texts_of_paths;
 use crate::slices::operand_columns;
 use crate::tally::Tally;
-use capeshard::{Answer, Line, Op, Operands, PlanLine, Table};
+use capeshard::{Allowance, Answer, Line, Op, Operands, PlanLine, Table};
 use reference::algebra::{Columns, Condition, Pairing};
+use reference::allowance::allowance;
 use reference::check::{check, Checked};
 use reference::damage;
 use reference::panel;
@@ -16,7 +17,7 @@ use reference::random::{self, Random};
 use reference::rewrite::rewrite;
 use reference::run::{self, run, workspace_entries};
 use reference::text::{print_database, print_query, read_database, read_query};
-use reference::value::{Database, Node, Query, Refusal, COLUMNS, NODES, TABLE_ROWS};
+use reference::value::{refuse, Database, Node, Query, Refusal, COLUMNS, NODES, TABLE_ROWS};
 
 fn line_of(node: &Node) -> Line {
     match *node {
@@ -127,6 +128,14 @@ fn checked(at: At, database: &Database, query: &Query) -> Result<Checked, Refusa
         At::Desk => database.form().and_then(|()| check(query, database.schema())),
         At::Panel => panel::check(database, query),
     }
+}
+
+fn product_of(at: At, database: &Database, query: &Query, rows: usize) -> Result<Allowance, Refusal> {
+    let found = match at {
+        At::Desk => allowance(database, query, rows as u32)?,
+        At::Panel => panel::allowance(database, query)?,
+    };
+    Ok(Allowance { plan: plan_of(&checked(at, database, query)?), budget: found.budget })
 }
 
 fn shown(text: &[u8]) -> String {
@@ -276,12 +285,48 @@ fn values(random: &mut Random, tally: &mut Tally, database: &Database, mut query
         tally.case(|| format!("{at:?}: compile {}", told(&query)), &expected, &found.map_err(given));
     }
     let rows = [1 + random.below(12), 24, 40, random.below(5), 4096 + random.below(3)][random.below(5)];
-    let budget = if random.once_in(4) { random.below(30) as u32 } else { u32::MAX };
-    let expected = desk_run(database, &query, rows, budget);
-    tally.empty += u64::from(empty && expected.is_ok());
-    let found = held.run(&stored, rows, budget).map_err(given);
-    tally.case(|| format!("Desk: run {rows},{budget} of {}", told(&query)), &expected, &found);
-    let expected = panel_run(database, &query, budget);
-    let found = capeshard::panel::run(&held, &stored, budget).map_err(given);
-    tally.case(|| format!("Panel: run {budget} of {}", told(&query)), &expected, &found);
+    for at in At::BOTH {
+        let finished = runs(random, tally, at, rows, (database, &query), (&stored, &held));
+        tally.empty += u64::from(empty && finished);
+    }
+}
+
+/// The product at desk or panel, a run that often has it as its budget, and one with one line less than that runs. Whether the
+/// first run finishes.
+fn runs(
+    random: &mut Random,
+    tally: &mut Tally,
+    at: At,
+    rows: usize,
+    (database, query): (&Database, &Query),
+    (stored, held): (&capeshard::Database, &capeshard::Query),
+) -> bool {
+    let told =
+        |what: String| format!("{at:?}, {rows} rows: {what} of {:?} over {database:?}", shown(&print_query(query)));
+    let expected = product_of(at, database, query, rows);
+    let found = match at {
+        At::Desk => held.allowance(stored, rows),
+        At::Panel => capeshard::panel::allowance(held, stored),
+    };
+    tally.case(|| told("product".to_string()), &expected, &found.map_err(given));
+    let product = expected.map_or(u32::MAX, |expected| expected.budget);
+    let budget = [random.below(30) as u32, product, product, u32::MAX][random.below(4)];
+    let expected = match at {
+        At::Desk => desk_run(database, query, rows, budget),
+        At::Panel => panel_run(database, query, budget),
+    };
+    let run = |budget: u32| match at {
+        At::Desk => held.run(stored, rows, budget).map_err(given),
+        At::Panel => capeshard::panel::run(held, stored, budget).map_err(given),
+    };
+    let (found, spent) = (run(budget), refuse(19, 0));
+    tally.case(|| told(format!("run {budget}")), &expected, &found);
+    if budget >= product {
+        tally.case(|| told(format!("19 with {budget}, the product being {product},")), &false, &(found == spent));
+    }
+    if let Ok(answer) = found {
+        let less = answer.ran - 1;
+        tally.case(|| told(format!("run {less}, one line less,")), &spent, &run(less));
+    }
+    expected.is_ok()
 }

@@ -1,5 +1,6 @@
 //! Worked examples: the starred cases, and what the cases of `answer` do not show (exact queries and plans, lent slices).
 
+mod allowance;
 mod comes_home;
 mod in_one_piece;
 mod on_the_panel;
@@ -21,11 +22,8 @@ pub fn examples() -> Vec<Outcome> {
         (format!("example: {name}"), result)
     };
     let base = [starred(), exact_queries(), exact_plans(), lent()].concat();
-    [base, on_the_panel::examples(), in_one_piece::examples(), comes_home::examples(), paths::examples()]
-        .concat()
-        .into_iter()
-        .map(outcome)
-        .collect()
+    let requests = [on_the_panel::examples(), in_one_piece::examples(), comes_home::examples(), paths::examples()];
+    [base, requests.concat(), allowance::examples()].concat().into_iter().map(outcome).collect()
 }
 
 const REACH: &str = "table=0 var=1 copy=1,2 drop=1 table=0 copy=0,2 drop=0 pair=join drop=2 fix=1";

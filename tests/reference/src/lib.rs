@@ -6,6 +6,7 @@
 //! the newest rows of a fix.
 
 pub mod algebra;
+pub mod allowance;
 pub mod answer;
 pub mod check;
 pub mod damage;

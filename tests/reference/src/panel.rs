@@ -1,6 +1,7 @@
 //! The wall panel of change request U1: the desk's questions with at most 32 nodes and the row limit 64. It takes no row
 //! limit, so 16 never arises.
 
+use crate::allowance::{self, Allowance};
 use crate::check::{self, Checked};
 use crate::paths;
 use crate::plan::{plan, Plan};
@@ -47,6 +48,12 @@ pub fn rewrite(database: &Database, query: &Query, kind: u32, node: u32) -> Resu
 
 pub fn compile(database: &Database, query: &Query) -> Result<Plan, Refusal> {
     check(database, query).map(|checked| plan(&checked.root))
+}
+
+/// 11, then 2, then the sheet's other numbers: what a run tests before 17.
+pub fn allowance(database: &Database, query: &Query) -> Result<Allowance, Refusal> {
+    fits(database, query)?;
+    allowance::allowance(database, query, ROW_LIMIT)
 }
 
 pub fn run(

@@ -1,5 +1,6 @@
 //! Properties of random inputs. Each seed gives one input; a property that fails names its seed.
 
+mod allowance;
 mod bytes;
 pub mod comes_home;
 mod desk_and_panel;
@@ -22,7 +23,7 @@ use crate::value::{slots_of, Database, Node, Query, Refusal, COLUMNS};
 
 /// What random inputs have met: accepted rewrites by kind, refusals by number, filters over rows with a 0 in their column and
 /// those of them that were pushed into a recursion, and what bytes of lines, books of zero bytes, desk and panel, recursions typed
-/// in one piece, columns that come home and property paths have.
+/// in one piece, columns that come home, property paths and products have.
 #[derive(Default)]
 pub struct Coverage {
     pub kinds: [u32; 7],
@@ -34,6 +35,7 @@ pub struct Coverage {
     pub one_piece: one_piece::Met,
     pub comes_home: comes_home::Met,
     pub paths: paths::Met,
+    pub allowance: allowance::Met,
 }
 
 impl Coverage {
@@ -42,8 +44,8 @@ impl Coverage {
     }
 
     /// Each kind was accepted and each number given; filters met 0, also in a recursion; what bytes of lines and books of zero
-    /// bytes met, the panel's share of it, and that of recursions typed in one piece, of columns that come home and of property
-    /// paths.
+    /// bytes met, the panel's share of it, and that of recursions typed in one piece, of columns that come home, of property paths
+    /// and of products.
     pub fn outcomes(&self) -> Vec<Outcome> {
         let seen = format!("accepted by kind {:?}, refused by number {:?}", &self.kinds[1..], &self.numbers[1..]);
         let full = self.kinds[1..].iter().chain(&self.numbers[1..]).all(|times| *times > 0);
@@ -53,7 +55,8 @@ impl Coverage {
         let met = self.unknown.iter().all(|times| *times > 0);
         let unknown = ("filters meet unknown values".to_string(), if met { Ok(seen) } else { Err(seen) });
         let single = vec![all, unknown, self.bytes.outcome(), self.first_day.outcome(), self.panel.outcome()];
-        [single, self.one_piece.outcomes(), self.comes_home.outcomes(), self.paths.outcomes()].concat()
+        let of_requests = [self.one_piece.outcomes(), self.comes_home.outcomes(), self.paths.outcomes()].concat();
+        [single, of_requests, self.allowance.outcomes()].concat()
     }
 }
 
@@ -61,7 +64,7 @@ impl Coverage {
 type Verdict = Result<bool, String>;
 type Property = fn(&mut Random, &mut Coverage) -> Verdict;
 
-const PROPERTIES: [(&str, Property); 40] = [
+const PROPERTIES: [(&str, Property); 43] = [
     ("a printed query is read back", queries_are_read_back),
     ("a printed database is read back", databases_are_read_back),
     ("a query's refusal names its first bad line", first_bad_line_of_a_query),
@@ -102,6 +105,9 @@ const PROPERTIES: [(&str, Property); 40] = [
     ("a path's refusals come in order at desk and panel", paths::refusals),
     ("a path's nodes are counted without being written", paths::limits),
     ("path prints the sheet or the first refusal", paths::programs),
+    ("the product is the plan's number of lines, by the count of nodes, times the row limit", allowance::products),
+    ("no run exceeds the product, and a budget of it is never spent", allowance::lines_run),
+    ("the product is refused exactly where a run is before 17", allowance::refusals),
 ];
 
 /// One test a property, each on the seeds from `seed` on.

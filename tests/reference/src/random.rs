@@ -169,14 +169,7 @@ pub fn query_of_rows(random: &mut Random, rows: u32) -> (Database, Query) {
             (tables, "table=0 table=1 pair=join".to_string(), Columns::from([0, 1, 2]))
         }
         _ => {
-            // From 0 on along a chain of so many nodes.
-            let chain = double([0, 1], (1..rows).map(|value| [value - 1, value]));
-            let (first, next) = ("fact=1,0", "var=0 copy=1,2 drop=1 table=0 copy=0,2 drop=0 pair=join drop=2");
-            let lines = match random.below(3) {
-                0 => format!("{first} {next} pair=union mu=0"),
-                1 => format!("{next} {first} pair=union mu=0"),
-                _ => format!("{first} {next} fix=0"),
-            };
+            let (chain, lines) = along_a_chain(random, rows, "");
             (vec![chain], lines, Columns::from([1]))
         }
     };
@@ -188,6 +181,29 @@ pub fn query_of_rows(random: &mut Random, rows: u32) -> (Database, Query) {
     }
     let query = Query::new(&piece.lines, NODES);
     (database, query)
+}
+
+/// A database and a checked query whose recursion adds one row a round until it holds exactly so many, with so many filters on
+/// its path and ten or eleven nodes besides. A run with that row limit comes the nearer to the plan's number of lines times it the
+/// more filters there are.
+pub fn query_of_rounds(random: &mut Random, rows: u32, filters: usize) -> (Database, Query) {
+    // The step's values are 1 to rows - 1: each filter keeps them.
+    let kept = [format!("ne=1,{rows}"), format!("max=1,{rows}"), "same=1,1".to_string()];
+    let filters: Vec<&str> = (0..filters).map(|_| kept[random.below(kept.len())].as_str()).collect();
+    let (chain, lines) = along_a_chain(random, rows, &filters.join(" "));
+    (Database::stored(&[chain], 0), Query::new(&nodes(&lines), NODES))
+}
+
+/// A chain of so many nodes, and a recursion from 0 on along it whose path ends with these lines.
+fn along_a_chain(random: &mut Random, rows: u32, last: &str) -> ((Columns, Relation), String) {
+    let chain = double([0, 1], (1..rows).map(|value| [value - 1, value]));
+    let (first, next) = ("fact=1,0", format!("var=0 copy=1,2 drop=1 table=0 copy=0,2 drop=0 pair=join drop=2 {last}"));
+    let lines = match random.below(3) {
+        0 => format!("{first} {next} pair=union mu=0"),
+        1 => format!("{next} {first} pair=union mu=0"),
+        _ => format!("{first} {next} fix=0"),
+    };
+    (chain, lines)
 }
 
 fn single(values: Range<u32>) -> (Columns, Relation) {

@@ -1,7 +1,7 @@
 //! The run entry: the order of its tests, and what the lent slices hold at exit.
 
 use crate::algebra::Columns;
-use crate::check::check;
+use crate::check::{check, Checked};
 use crate::plan::{execute, plan};
 use crate::value::{refuse, slots_of, Database, Query, Refusal, COLUMNS, TABLE_ROWS};
 
@@ -18,7 +18,17 @@ pub const fn workspace_entries(registers: usize, row_limit: u32) -> usize {
     registers * (1 + COLUMNS * row_limit as usize)
 }
 
-/// Tests 11, 2, 1, 3, 20, 4 to 10, 16, the workspace (17), then runs and tests the answer slice (17). A run that began leaves the
+/// What a run tests before 17: 11, then 2, 1, 3, 20, 4 to 10, then 16.
+pub fn admitted(database: &Database, query: &Query, row_limit: u32) -> Result<Checked, Refusal> {
+    database.form()?;
+    let checked = check(query, database.schema())?;
+    if row_limit == 0 || row_limit > TABLE_ROWS {
+        return refuse(16, 0);
+    }
+    Ok(checked)
+}
+
+/// Tests what comes before 17 and the workspace (17), then runs and tests the answer slice (17). A run that began leaves the
 /// whole workspace zeros, any other leaves it alone; only acceptance writes the answer slice, 8 entries a row.
 pub fn run(
     database: &Database,
@@ -28,11 +38,7 @@ pub fn run(
     workspace: &mut [u32],
     answer: &mut [u32],
 ) -> Result<Answer, Refusal> {
-    database.form()?;
-    let checked = check(query, database.schema())?;
-    if row_limit == 0 || row_limit > TABLE_ROWS {
-        return refuse(16, 0);
-    }
+    let checked = admitted(database, query, row_limit)?;
     let plan = plan(&checked.root);
     if workspace.len() < workspace_entries(plan.registers, row_limit) {
         return refuse(17, 0);

@@ -55,12 +55,12 @@ impl Met {
 }
 
 /// A number up to two below or above.
-fn about(random: &mut Random, number: usize) -> usize {
+pub fn about(random: &mut Random, number: usize) -> usize {
     number - 2 + random.below(5)
 }
 
 /// A database and a checked query, half of them near a limit of the panel.
-fn input(random: &mut Random) -> (Database, Query) {
+pub fn input(random: &mut Random) -> (Database, Query) {
     if random.once_in(4) {
         let rows = about(random, panel::ROW_LIMIT as usize);
         return random::query_of_rows(random, rows as u32);
@@ -75,7 +75,7 @@ fn input(random: &mut Random) -> (Database, Query) {
     (database, query)
 }
 
-fn too_long(query: &Query) -> bool {
+pub fn too_long(query: &Query) -> bool {
     query.count as usize > panel::NODES
 }
 
@@ -104,7 +104,7 @@ pub fn texts(random: &mut Random, coverage: &mut Coverage) -> Verdict {
 }
 
 /// The panel's reply by the desk's.
-fn due<T>(query: &Query, desk: Result<T, Refusal>) -> Result<T, Refusal> {
+pub fn due<T>(query: &Query, desk: Result<T, Refusal>) -> Result<T, Refusal> {
     match desk {
         Err(Refusal { number: 11, .. }) => desk,
         _ if too_long(query) => refuse(2, 0),
