@@ -1,4 +1,4 @@
--- `answer` never gives 19: its 24 nodes and L = 24 allow no run of more than 576 lines, and it takes 1,000,000.
+-- The run that `answer` makes is never refused with 19: its 24 nodes and L = 24 allow none of more than 576 lines, and it takes 1,000,000.
 use mathlib.Core.Path.{_≡_}
 use mathlib.Core.Logic.{_≢_}
 use mathlib.Core.List.{List}
