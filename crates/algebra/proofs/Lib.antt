@@ -4,6 +4,7 @@ pub mod Each
 pub mod Linear
 pub mod LeastFixpoint
 pub mod Unknown
+pub mod Latest
 pub mod ColumnSets
 pub mod Typing
 pub mod Typed

@@ -13,7 +13,7 @@ use Rattle.algebra.specs.declared.Pairing.the-variants.{Union, Join, Exc
 use Rattle.algebra.specs.Mapping.{Mapping, Compatible, orElse, combine, put}
 use Rattle.algebra.specs.Term.{Term, pair, Environment, bind, paired, meaning}
 use Rattle.algebra.specs.Columns.{Cols, with, without, Schema, pairCols, cols, agreed, pairOrigin, origin, hasOrigin, stable}
-use Rattle.algebra.specs.WellFormed.{Closed, c-table, c-fact, c-pair, c-filter, c-copy, c-drop, c-fix, Path, p-var, p-union, p-left, p-right, p-except, p-filter, p-copy, p-drop}
+use Rattle.algebra.specs.WellFormed.{Closed, c-table, c-fact, c-pair, c-filter, c-copy, c-drop, c-last, c-fix, Path, p-var, p-union, p-left, p-right, p-except, p-filter, p-copy, p-drop}
 use Rattle.algebra.proofs.Mappings.{present, or-none, only, bind-out}
 use Rattle.algebra.proofs.Domain.{Domain, domain-at}
 use Rattle.algebra.proofs.ColumnSets.{in-left, in-right}
@@ -38,6 +38,7 @@ closed-origin C e (c-pair {o = Except} p q _) = closed-origin C e p
 closed-origin C e (c-filter p _) = closed-origin C e p
 closed-origin C e (c-copy {c = c} {d = d} p _ _) = rw (closed-origin C c p, closed-origin C e p) (if-same (eqb e d) none)
 closed-origin C e (c-drop {c = c} p _) = rw (closed-origin C e p) (if-same (eqb e c) none)
+closed-origin C e (c-last p _) = closed-origin C e p
 closed-origin C e (c-fix p q _) = refl
 
 -- a join has its open side's origins

@@ -1,9 +1,9 @@
 -- The split term means what the term means as typed, over all tables and in all environments, whatever the term. "A body must mean the least
 -- fixpoint of itself, and everything known of fixes then covers it."
 use Prim.Native.Nat.{ℕ}
-use Rattle.algebra.specs.Term.{Term, table, var, fact, pair, filter, copy, drop, fix, mu, Environment}
+use Rattle.algebra.specs.Term.{Term, table, var, fact, pair, filter, copy, drop, last, fix, mu, Environment}
 use Rattle.algebra.specs.Split.{split, splitMu}
-use Rattle.algebra.proofs.Alike.{Alike, alike, alike-trans, alike-pair, alike-filter, alike-copy, alike-drop, alike-fix, alike-mu}
+use Rattle.algebra.proofs.Alike.{Alike, alike, alike-trans, alike-pair, alike-filter, alike-copy, alike-drop, alike-last, alike-fix, alike-mu}
 use Rattle.algebra.proofs.SplitBodies.{SplitCase, stays, becomes, split-case, split-alike}
 
 mu-alike : {T : Environment} (v : ℕ) (a : Term) → Alike T (mu v a) (splitMu v a)
@@ -22,5 +22,6 @@ split-meaning (pair o a b) = alike-pair o (split-meaning a) (split-meaning b)
 split-meaning (filter f a) = alike-filter f (split-meaning a)
 split-meaning (copy c d a) = alike-copy c d (split-meaning a)
 split-meaning (drop c a) = alike-drop c (split-meaning a)
+split-meaning (last c a) = alike-last c (split-meaning a)
 split-meaning (fix v a b) = alike-fix v (split-meaning a) (split-meaning b)
 split-meaning (mu v a) = alike-trans (alike-mu v (split-meaning a)) (mu-alike v (split a))

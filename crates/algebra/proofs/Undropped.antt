@@ -6,7 +6,7 @@ use mathlib.Core.Logic.{inl, inr}
 use Prim.Native.Nat.{ℕ}
 use lib.Dec.{eqb}
 use Rattle.laws.proofs.Tests.{true-false, eqb-self, same?, or-false-left, or-false-right}
-use Rattle.algebra.specs.Term.{Term, table, var, fact, pair, filter, copy, drop, fix, mu}
+use Rattle.algebra.specs.Term.{Term, table, var, fact, pair, filter, copy, drop, last, fix, mu}
 use Rattle.algebra.specs.Columns.{Cols, Schema, isClosed, pairOrigin, origin, stable}
 use Rattle.algebra.specs.WellFormed.{Path, p-var, p-union, p-left, p-right, p-except, p-filter, p-copy, p-drop}
 use Rattle.algebra.proofs.Open.{path-open}
@@ -21,6 +21,7 @@ dropped (pair o a b) e = (not (isClosed a) && dropped a e) || (not (isClosed b) 
 dropped (filter f a) e = dropped a e
 dropped (copy c d a) e = dropped a e
 dropped (drop c a) e = eqb e c || dropped a e
+dropped (last c a) e = dropped a e
 dropped (fix v a b) e = false
 dropped (mu v a) e = false
 

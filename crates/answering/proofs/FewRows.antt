@@ -14,7 +14,7 @@ use Rattle.relation.specs.Operators.{has, minusRows}
 use Rattle.database.specs.Refusals.{accepted}
 use Rattle.database.proofs.Replies.{accepted-same, accepted-then}
 use Rattle.plan.specs.declared.Op.{Op}
-use Rattle.plan.specs.declared.Op.the-variants.{Table, Fact, Pair, Filter, Copy, Drop, LoopStart, LoopNext}
+use Rattle.plan.specs.declared.Op.the-variants.{Table, Fact, Pair, Filter, Copy, Drop, Last, LoopStart, LoopNext}
 use Rattle.plan.specs.declared.Slot.{Slot}
 use Rattle.plan.specs.Plan.{blank, planLines}
 use Rattle.machine.specs.Machine.{Registers, write, State, effectOf, run, start}
@@ -52,6 +52,7 @@ module _ (L : ℕ) where
     few-effect D E s (Filter d a f) h g = few-write (s .registers) d _ h g
     few-effect D E s (Copy d a c e) h g = few-write (s .registers) d _ h g
     few-effect D E s (Drop d a c) h g = few-write (s .registers) d _ h g
+    few-effect D E s (Last d a c) h g = few-write (s .registers) d _ h g
     few-effect D E s (LoopStart d e a p) h g = few-write (write (s .registers) d (s .registers a)) e _ (few-write (s .registers) d _ h g) g
     few-effect D E s (LoopNext d e a p) h g =
         let short = shorter (λ x. not (has x (s .registers d))) (s .registers a) in

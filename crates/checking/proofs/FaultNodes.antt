@@ -13,7 +13,7 @@ use Rattle.laws.proofs.Tests.{and-true-left, and-true-right}
 use Rattle.laws.proofs.Passes.{every-same, all-same}
 use Rattle.algebra.specs.declared.Pairing.{Pairing}
 use Rattle.algebra.specs.declared.Pairing.the-variants.{Union, Join, Except}
-use Rattle.algebra.specs.Term.{Term, table, var, fact, pair, filter, copy, drop, fix, mu}
+use Rattle.algebra.specs.Term.{Term, table, var, fact, pair, filter, copy, drop, last as latest, fix, mu}
 use Rattle.algebra.specs.Columns.{Cols, noCols, Schema, cols, size, named}
 use Rattle.relation.specs.declared.Columns.{Columns}
 use Rattle.relation.specs.Rows.{columns, colsOf, columnsOf}
@@ -22,7 +22,7 @@ use Rattle.database.specs.declared.Refusal.the-variants.{ColumnFault, NoTable}
 use Rattle.database.specs.Stored.{schema}
 use Rattle.database.specs.Refusals.{Reply, accepted, noFault}
 use Rattle.query.specs.declared.Node.{Node}
-use Rattle.query.specs.declared.Node.the-variants.{Table, Var, Fact, Pair, Filter, Copy, Drop, Fix, Mu}
+use Rattle.query.specs.declared.Node.the-variants.{Table, Var, Fact, Pair, Filter, Copy, Drop, Last, Fix, Mu}
 use Rattle.query.specs.declared.Query.{Query}
 use Rattle.query.specs.Lines.{nodes, lines}
 use Rattle.query.specs.Check.{unless, sameCols, sidesOk}
@@ -45,6 +45,7 @@ faultOf (Pair o) tables last first n = noFault (unless (sidesOk columns o (colsO
 faultOf (Filter f) tables last first n = noFault (unless (every (colsOf columns last) (named f)) (ColumnFault n))
 faultOf (Copy c d) tables last first n = noFault (unless (colsOf columns last c && not (colsOf columns last d)) (ColumnFault n))
 faultOf (Drop c) tables last first n = noFault (unless (colsOf columns last c) (ColumnFault n))
+faultOf (Last c) tables last first n = noFault (unless (colsOf columns last c) (ColumnFault n))
 faultOf (Fix v) tables last first n = noFault (unless (sameCols columns (colsOf columns last) (colsOf columns first)) (ColumnFault n))
 faultOf (Mu v) tables last first n = accepted tt
 
@@ -90,6 +91,9 @@ module _ (d : Database) (vs : List Visit) (i n : ℕ) (C : Cols) (v : List ℕ) 
   fault-node (drop c a) u h e =
       let k : 1 ≤ i = omega (arith, size-pos a) in
       ap fault (ap (λ (x : Columns). colsOf columns x c) (f k ∙ ap (nodeColumns G) u) ∙ held-at (cols G C a) c (one-formed a (Drop c) e .1))
+  fault-node (latest c a) u h e =
+      let k : 1 ≤ i = omega (arith, size-pos a) in
+      ap fault (ap (λ (x : Columns). colsOf columns x c) (f k ∙ ap (nodeColumns G) u) ∙ held-at (cols G C a) c (one-formed a (Last c) e .1))
   fault-node (fix w a b) (p, q) h e =
       let k : 1 ≤ i = omega (arith, size-pos a, size-pos b) in
       ap fault (ap₂ (λ (x y : Columns). sameCols columns (colsOf columns x) (colsOf columns y)) (f k ∙ ap (nodeColumns G) p) (g k ∙ ap (nodeColumns G) q)

@@ -105,6 +105,7 @@ fn second_fault(
         Node::Drop(c) => accept_if(has_column(right, c as usize), Refusal::ColumnFault(i + 1)),
         Node::Fix(_) => accept_if(same_columns(right, left), Refusal::ColumnFault(i + 1)),
         Node::Mu(_) => Verdict::Accepted, // the first pass has refused it
+        Node::Last(c) => accept_if(has_column(right, c as usize), Refusal::ColumnFault(i + 1)),
     }
 }
 

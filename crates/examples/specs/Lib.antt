@@ -4,3 +4,4 @@ pub mod Panel
 pub mod OnePiece
 pub mod Floors
 pub mod Allowances
+pub mod Issues

@@ -12,7 +12,7 @@ use Rattle.algebra.specs.declared.Pairing.the-variants.{Union, Join, Except}
 use Rattle.algebra.specs.declared.Condition.the-variants.{Eq, Ne, Max, Same}
 use Rattle.query.specs.declared.Line.{Line}
 use Rattle.query.specs.declared.Node.{Node}
-use Rattle.query.specs.declared.Node.the-variants.{Table, Var, Fact, Pair, Filter, Copy, Drop, Fix, Mu}
+use Rattle.query.specs.declared.Node.the-variants.{Table, Var, Fact, Pair, Filter, Copy, Drop, Fix, Mu, Last}
 use Rattle.query.specs.declared.Query.{Query}
 use Rattle.query.specs.Lines.{nodes, nodeLimit, line, blank}
 use Rattle.flat.specs.declared.FlatLine.{FlatLine}
@@ -37,6 +37,7 @@ node-again (Copy a b) = refl
 node-again (Drop a) = refl
 node-again (Fix v) = refl
 node-again (Mu v) = refl
+node-again (Last c) = refl
 
 next : (x : ℕ) (l : List ℕ) (m n : ℕ) → m ≡ suc n → getD (x ∷ l) m 0 ≡ getD l n 0
 next x l m n e = ap (λ k. getD (x ∷ l) k 0) e

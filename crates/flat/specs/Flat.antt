@@ -18,7 +18,7 @@ use Rattle.database.specs.declared.Verdict.the-variants.{Accepted, Refused}
 use Rattle.database.specs.Stored.{tableLimit, tableCols, rowCount}
 use Rattle.database.specs.Refusals.{number, placeOf}
 use Rattle.query.specs.declared.Node.{Node}
-use Rattle.query.specs.declared.Node.the-variants.{Table, Var, Fact, Pair, Filter, Copy, Drop, Fix, Mu}
+use Rattle.query.specs.declared.Node.the-variants.{Table, Var, Fact, Pair, Filter, Copy, Drop, Fix, Mu, Last}
 use Rattle.query.specs.declared.Query.{Query}
 use Rattle.query.specs.Lines.{nodeLimit, nodes, line}
 use Rattle.machine.specs.declared.Outcome.{Outcome}
@@ -77,6 +77,7 @@ flatLine (Copy a b) = record { code = 11; a = a; b = b }
 flatLine (Drop a) = record { code = 12; a = a; b = 0 }
 flatLine (Fix v) = record { code = 13; a = v; b = 0 }
 flatLine (Mu v) = record { code = 15; a = v; b = 0 }
+flatLine (Last c) = record { code = 16; a = c; b = 0 }
 
 -- and back; any other code is a line off the form, and so refused with 1 and its node
 unfoldable pub nodeOf : FlatLine → Node
@@ -87,7 +88,7 @@ nodeOf l =
     if eqb (l .code) filterCode then Filter (Eq (l .a) (l .b)) else (if eqb (l .code) (filterCode + 1) then Filter (Ne (l .a) (l .b)) else (
     if eqb (l .code) (filterCode + 2) then Filter (Max (l .a) (l .b)) else (if eqb (l .code) (filterCode + 3) then Filter (Same (l .a) (l .b)) else (
     if eqb (l .code) 11 then Copy (l .a) (l .b) else (if eqb (l .code) 12 then Drop (l .a) else (
-    if eqb (l .code) 13 then Fix (l .a) else (if eqb (l .code) 15 then Mu (l .a) else Table entryLimit)))))))))))))
+    if eqb (l .code) 13 then Fix (l .a) else (if eqb (l .code) 15 then Mu (l .a) else (if eqb (l .code) 16 then Last (l .a) else Table entryLimit))))))))))))))
 
 -- a query: its count, then three entries a line
 abbrev pub lineEntries : ℕ
@@ -176,6 +177,7 @@ flatOp (plan.Pair to l r o) = opLine (pairLine o .code) to l r 0
 flatOp (plan.Filter to from f) = opLine (filterLine f .code) to from (filterLine f .a) (filterLine f .b)
 flatOp (plan.Copy to from a b) = opLine 11 to from a b
 flatOp (plan.Drop to from a) = opLine 12 to from a 0
+flatOp (plan.Last to from a) = opLine 16 to from a 0
 flatOp (plan.LoopStart total delta from path) = opLine 14 total delta from path
 flatOp (plan.LoopNext total delta from path) = opLine 13 total delta from path
 

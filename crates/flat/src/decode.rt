@@ -61,6 +61,7 @@ fn node_of(line: FlatLine) -> Node
         12 => Node::Drop(a),
         13 => Node::Fix(a),
         15 => Node::Mu(a),
+        16 => Node::Last(a),
         _ => Node::Table(4294967295),
     }
 }

@@ -112,6 +112,7 @@ fn flat_line(node: Node) -> FlatLine
         Node::Drop(a) => FlatLine { code: 12, a, b: 0 },
         Node::Fix(a) => FlatLine { code: 13, a, b: 0 },
         Node::Mu(a) => FlatLine { code: 15, a, b: 0 },
+        Node::Last(a) => FlatLine { code: 16, a, b: 0 },
     }
 }
 

@@ -2,7 +2,7 @@
 //
 // A query takes QUERY_ROOM entries: its node count, then for each of NODES lines a code and two numbers, 0 where the line has none. The codes:
 // 1 table=a, 2 var=a, 3 fact=a,b, 4 pair=union, 5 pair=join, 6 pair=except, 7 eq=a,b, 8 ne=a,b, 9 max=a,b, 10 same=a,b, 11 copy=a,b, 12 drop=a,
-// 13 fix=a, 15 mu=a. A line with another code is off the form (1 with its node). Lines past the count mean nothing.
+// 13 fix=a, 15 mu=a, 16 last=a. A line with another code is off the form (1 with its node). Lines past the count mean nothing.
 //
 // A database takes DATABASE_ROOM entries: its table count, then for each of TABLES tables its columns, column c with worth 2^c, and its row count.
 // A column over the highest makes the table off the form (11 with its number).

@@ -78,6 +78,7 @@ fn flat_op(op: Op) -> FlatOp
             new,
         } => op_line(11, to, from, column, new),
         Op::Drop { to, from, column } => op_line(12, to, from, column, 0),
+        Op::Last { to, from, column } => op_line(16, to, from, column, 0),
         Op::LoopStart {
             total,
             delta,

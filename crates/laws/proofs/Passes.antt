@@ -136,6 +136,11 @@ module _ {A : Type 0} (p : A → Bool) where
     any-found (a ∷ l) zero h e = or-true-left (p a) (any p l) e
     any-found (a ∷ l) (suc i) h e = or-true-right (p a) (any p l) (any-found l i (omega arith) e)
 
+    pub any-none : (l : List A) → ((i : ℕ) → i < length l → p (getD l i d) ≡ false) → any p l ≡ false
+    unfolding any
+    any-none [] h = refl
+    any-none (a ∷ l) h = rw (h 0 (omega arith)) (any-none l (λ i k. h (suc i) (omega arith)))
+
     -- of a search to the end
     pub any-rest : (l : List A) (i : ℕ) → i < length l → any p (drop i l) ≡ p (getD l i d) || any p (drop (i + 1) l)
     unfolding any

@@ -7,7 +7,7 @@ use lib.Dec.{eqb}
 use Rattle.laws.specs.Lists.{if_then_else_}
 use Rattle.algebra.specs.declared.Pairing.the-variants.{Union, Join, Except}
 use Rattle.query.specs.declared.Node.{Node}
-use Rattle.query.specs.declared.Node.the-variants.{Table, Var, Fact, Pair, Filter, Copy, Drop, Fix, Mu}
+use Rattle.query.specs.declared.Node.the-variants.{Table, Var, Fact, Pair, Filter, Copy, Drop, Last, Fix, Mu}
 use Rattle.query.specs.declared.Query.{Query}
 use Rattle.query.specs.declared.Facts.{Facts}
 use Rattle.query.specs.Shape.{hasStep}
@@ -48,6 +48,7 @@ module _ (q : Query) (facts : Facts) (p : Placed q facts) (k i : ℕ) where
   line-fits (Filter f) = either (eqb k 1) _ _ (λ e. over _ (FilterFix f (rightOf i)) (λ g. omega arith)) tt
   line-fits (Copy a b) = tt
   line-fits (Drop a) = either (eqb k 5) _ _ (λ e. over _ (DropFix a (rightOf i)) (λ g. omega arith)) tt
+  line-fits (Last a) = tt
   line-fits (Fix v) = tt
   line-fits (Mu v) = tt
 

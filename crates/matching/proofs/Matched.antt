@@ -10,7 +10,7 @@ use lib.ListN.{length}
 use Rattle.laws.specs.Lists.{if_then_else_}
 use Rattle.algebra.specs.declared.Pairing.{Pairing}
 use Rattle.algebra.specs.declared.Pairing.the-variants.{Union, Join, Except}
-use Rattle.algebra.specs.Term.{Term, table, var, fact, pair, filter, copy, drop, fix, mu}
+use Rattle.algebra.specs.Term.{Term, table, var, fact, pair, filter, copy, drop, last as latest, fix, mu}
 use Rattle.algebra.specs.Columns.{Cols, noCols, Schema, size}
 use Rattle.algebra.specs.Rules.{Loop, loopOf, Match, filter-fix, fix-join, join-fix, fix-except, drop-fix, fix-fix, over, overBoth, pairMatch, match}
 use Rattle.algebra.proofs.Redex.{fixOf}
@@ -61,6 +61,7 @@ over-found q s n (pair o a b) e m mk ok = rw e
 over-found q s n (filter f a) e m mk ok = rw e
 over-found q s n (copy c x a) e m mk ok = rw e
 over-found q s n (drop c a) e m mk ok = rw e
+over-found q s n (latest c a) e m mk ok = rw e
 over-found q s n (fix v a b) e m mk ok = rw e (ok (record { var = v; seed = a; step = b }) refl)
 over-found q s n (mu v a) e m mk ok = rw e
 
@@ -74,6 +75,7 @@ both-found q s (pair o x y) b e f = rw e
 both-found q s (filter f′ x) b e f = rw e
 both-found q s (copy c x y) b e f = rw e
 both-found q s (drop c x) b e f = rw e
+both-found q s (latest c x) b e f = rw e
 both-found q s (fix v x y) b e f =
     ap (λ (z : Node). if hasStep z then overFix q (last (s + size (fix v x y)) b) (FixFix (last s (fix v x y)) (last (s + size (fix v x y)) b)) else Nothing) e
     ∙ over-found q s (s + size (fix v x y)) b f _ (fix-fix (record { var = v; seed = x; step = y })) (λ z i. ap (λ (w : Term). FixFix (last s (fix v x y)) (last (s + size (fix v x y)) w)) (sym i))
@@ -153,5 +155,6 @@ module _ (d : Database) (limit : ℕ) (q : Query) (t : Term) (checked : Checked 
       ∙ ap (λ (j : ℕ). if eqb k 5 then overFix q j (DropFix c j) else Nothing) e
       ∙ pick s (eqb k 5) (over (drop-fix c) (loopOf a)) none
       (over-found q s s a (line (drop-down d q t (checked .written) h)) _ (drop-fix c) (λ x e. ap (λ (y : Term). DropFix c (last s y)) (sym e))) refl
+  found-at {s = s} (latest c a) h = ap (lineFound q facts k (last s (latest c a))) (line h)
   found-at {s = s} (fix v a b) h = ap (lineFound q facts k (last s (fix v a b))) (line h)
   found-at {s = s} (mu v a) h = ap (lineFound q facts k (last s (mu v a))) (line h)

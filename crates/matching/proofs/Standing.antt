@@ -10,7 +10,7 @@ use lib.Seq.{take-at, drop-at}
 use Rattle.laws.proofs.EachMember.{getD-map}
 use Rattle.algebra.specs.declared.Pairing.{Pairing}
 use Rattle.algebra.specs.declared.Condition.{Condition}
-use Rattle.algebra.specs.Term.{Term, table, var, fact, pair, filter, copy, drop, fix, mu}
+use Rattle.algebra.specs.Term.{Term, table, var, fact, pair, filter, copy, drop, last as latest, fix, mu}
 use Rattle.algebra.specs.Columns.{Cols, noCols, Schema, cols, size, free}
 use Rattle.relation.specs.Rows.{columns, columnsOf}
 use Rattle.database.specs.declared.Database.{Database}
@@ -113,6 +113,7 @@ module _ (d : Database) (q : Query) (t : Term) (written : nodes q ≡ lines t) w
   stands (filter f a) C v n p = (told C v n (filter f a) p, stands a C v n (part-left (visits G C v n a) _ p))
   stands (copy c x a) C v n p = (told C v n (copy c x a) p, stands a C v n (part-left (visits G C v n a) _ p))
   stands (drop c a) C v n p = (told C v n (drop c a) p, stands a C v n (part-left (visits G C v n a) _ p))
+  stands (latest c a) C v n p = (told C v n (latest c a) p, stands a C v n (part-left (visits G C v n a) _ p))
   stands (fix u a b) C v n p = (
     told C v n (fix u a b) p,
     stands a C v n (part-left (visits G C v n a) _ p),
@@ -177,37 +178,33 @@ module _ (d : Database) (q : Query) (t : Term) (written : nodes q ≡ lines t) w
       stacked = stacked-right a {t = fix u a b} (Fix u ∷ []) refl (h .stacked);
     }
 
+    -- of a line that takes one
+    one-down : (a t : Term) → lines t ≡ lines a ++ (root t ∷ []) → ((v : List ℕ) → visits G C v n t ≡ visits G C v n a ++ (visit n t C v ∷ [])) → Here C n t → Here C n a
+    one-down a t e f h = record {
+      fixes = h .fixes;
+      visited = part-left (visits G C (h .fixes) n a) _ (rw (f (h .fixes)) at (h .visited));
+      stacked = stacked-left _ e (h .stacked);
+    }
+
     pub filter-down : {f : Condition} {a : Term} → Here C n (filter f a) → Here C n a
     unfolding visits lines
-    filter-down {a = a} h = record {
-      fixes = h .fixes;
-      visited = part-left (visits G C (h .fixes) n a) _ (h .visited);
-      stacked = stacked-left _ refl (h .stacked);
-    }
+    filter-down {f} {a} h = one-down a (filter f a) refl (λ v. refl) h
 
     copy-down : {c x : ℕ} {a : Term} → Here C n (copy c x a) → Here C n a
     unfolding visits lines
-    copy-down {a = a} h = record {
-      fixes = h .fixes;
-      visited = part-left (visits G C (h .fixes) n a) _ (h .visited);
-      stacked = stacked-left _ refl (h .stacked);
-    }
+    copy-down {c} {x} {a} h = one-down a (copy c x a) refl (λ v. refl) h
 
     pub drop-down : {c : ℕ} {a : Term} → Here C n (drop c a) → Here C n a
     unfolding visits lines
-    drop-down {a = a} h = record {
-      fixes = h .fixes;
-      visited = part-left (visits G C (h .fixes) n a) _ (h .visited);
-      stacked = stacked-left _ refl (h .stacked);
-    }
+    drop-down {c} {a} h = one-down a (drop c a) refl (λ v. refl) h
+
+    last-down : {c : ℕ} {a : Term} → Here C n (latest c a) → Here C n a
+    unfolding visits lines
+    last-down {c} {a} h = one-down a (latest c a) refl (λ v. refl) h
 
     mu-down : {u : ℕ} {a : Term} → Here C n (mu u a) → Here C n a
     unfolding visits lines
-    mu-down {a = a} h = record {
-      fixes = h .fixes;
-      visited = part-left (visits G C (h .fixes) n a) _ (h .visited);
-      stacked = stacked-left _ refl (h .stacked);
-    }
+    mu-down {u} {a} h = one-down a (mu u a) refl (λ v. refl) h
 
   -- around a term's own node, and past it, are the columns around the term
   around-past : (a : Term) (C : Cols) (n : ℕ) → size a < n → around G C a n ≡ C
@@ -219,6 +216,7 @@ module _ (d : Database) (q : Query) (t : Term) (written : nodes q ≡ lines t) w
   around-past (filter f a) C n h = around-past a C n (omega arith)
   around-past (copy c x a) C n h = around-past a C n (omega arith)
   around-past (drop c a) C n h = around-past a C n (omega arith)
+  around-past (latest c a) C n h = around-past a C n (omega arith)
   around-past (fix v a b) C n h = rw (lt-leb n (size a) (omega arith), lt-leb n (size a + size b) (omega arith))
   around-past (mu v a) C n h = around-past a C n (omega arith)
 
@@ -231,6 +229,7 @@ module _ (d : Database) (q : Query) (t : Term) (written : nodes q ≡ lines t) w
   around-own (filter f a) C n h = around-past a C n (omega arith)
   around-own (copy c x a) C n h = around-past a C n (omega arith)
   around-own (drop c a) C n h = around-past a C n (omega arith)
+  around-own (latest c a) C n h = around-past a C n (omega arith)
   around-own (fix v a b) C n h = rw (lt-leb n (size a) (omega arith), lt-leb n (size a + size b) (omega arith))
   around-own (mu v a) C n h = around-past a C n (omega arith)
 
@@ -280,6 +279,10 @@ module _ (d : Database) (q : Query) (t : Term) (written : nodes q ≡ lines t) w
   node-of (drop c a) C m n h k s = elim (decLt (size a) n) [
     | no p ↦ same-operand a (drop c a) C m n refl (node-of a C m n h (omega arith) (drop-down s))
     | yes p ↦ own (drop c a) C m n s (omega arith)
+  ]
+  node-of (latest c a) C m n h k s = elim (decLt (size a) n) [
+    | no p ↦ same-operand a (latest c a) C m n refl (node-of a C m n h (omega arith) (last-down s))
+    | yes p ↦ own (latest c a) C m n s (omega arith)
   ]
   node-of (fix u a b) C m n h k s = elim (decLt (size a) n) [
     | no p ↦ same-operand a (fix u a b) C m n (rw (le-leb n (size a) (omega arith))) (node-of a C m n h (omega arith) (fix-left s))

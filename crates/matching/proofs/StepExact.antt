@@ -9,7 +9,7 @@ use native.Mathlib.Decide.{decLt}
 use lib.ListN.{length, List·getD-eq-default}
 use borrow.Author.Tests.{le-leb, lt-leb}
 use Rattle.laws.proofs.Tests.{true-false}
-use Rattle.algebra.specs.Term.{Term, table, var, fact, pair, filter, copy, drop, fix, mu}
+use Rattle.algebra.specs.Term.{Term, table, var, fact, pair, filter, copy, drop, last as latest, fix, mu}
 use Rattle.algebra.specs.Columns.{Cols, noCols, Schema, size}
 use Rattle.algebra.specs.Rules.{Match, match, stableEnough, unusedEnough, closedEnough, written}
 use Rattle.algebra.proofs.Redex.{redex, matched}
@@ -86,6 +86,7 @@ module _ (d : Database) (limit : ℕ) (q : Query) (t : Term) (checked : Checked 
   fix-seeded (filter f a) h e = true-false (sym e)
   fix-seeded (copy c x a) h e = true-false (sym e)
   fix-seeded (drop c a) h e = true-false (sym e)
+  fix-seeded (latest c a) h e = true-false (sym e)
   fix-seeded (fix v a b) h e =
       let s = here-told d limit q t checked counted fits h .start in
       let m = step-start d limit q t checked counted fits (record { var = v; seed = a; step = b }) h in

@@ -13,7 +13,7 @@ use Rattle.relation.specs.Rows.{columns, colsOf}
 use Rattle.database.specs.declared.Refusal.the-variants.{NoMatch, Unstable, Used, OpenOperand}
 use Rattle.database.specs.Refusals.{Reply, refused, accepted, require, _>>=_}
 use Rattle.query.specs.declared.Node.{Node}
-use Rattle.query.specs.declared.Node.the-variants.{Table, Var, Fact, Pair, Filter, Copy, Drop, Fix, Mu}
+use Rattle.query.specs.declared.Node.the-variants.{Table, Var, Fact, Pair, Filter, Copy, Drop, Last, Fix, Mu}
 use Rattle.query.specs.declared.Query.{Query}
 use Rattle.query.specs.declared.Facts.{Facts}
 use Rattle.query.specs.Lines.{nodeLimit}
@@ -72,6 +72,7 @@ module _ (q : Query) where
     lineFound (Filter f) = filterFound k i f
     lineFound (Copy a b) = Nothing
     lineFound (Drop a) = dropFound k i a
+    lineFound (Last a) = Nothing
     lineFound (Fix v) = Nothing
     lineFound (Mu v) = Nothing
 

@@ -17,7 +17,7 @@ use Rattle.laws.proofs.Tabulated.{getD-tabulate}
 use Rattle.algebra.specs.declared.Pairing.{Pairing}
 use Rattle.algebra.specs.declared.Pairing.the-variants.{Union, Join, Except}
 use Rattle.algebra.specs.Mapping.{orElse}
-use Rattle.algebra.specs.Term.{Term, table, var, fact, pair, filter, copy, drop, fix, mu}
+use Rattle.algebra.specs.Term.{Term, table, var, fact, pair, filter, copy, drop, last as latest, fix, mu}
 use Rattle.algebra.specs.Columns.{Cols, Schema, cols, size, Origins, agreed, pairOrigin, origin, hasOrigin, stable}
 use Rattle.algebra.specs.Rules.{Loop}
 use Rattle.relation.specs.declared.Columns.{Columns}
@@ -185,6 +185,8 @@ module _ (G : Schema) (q : Query) (facts : Facts) (formed : (j : ℕ) → j < q 
         | inl i ↦ rw (i .1) refl
         | inr i ↦ rw (i .1) (shows a C n held l (omega arith) (omega arith) e h)
       ]
+  shows (latest c a) C n held (s, l) fits room e h =
+      ap originOf (node-number n (size a) held s refl (omega arith) e h) ∙ shows a C n held l (omega arith) (omega arith) e h
   shows (fix v a b) C n held (s, l, r) fits room e h = ap originOf (node-number n (size a + size b) held s refl (omega arith) e h)
   shows (mu v a) C n held (s, l) fits room e h = ap originOf (node-number n (size a) held s refl (omega arith) e h)
 

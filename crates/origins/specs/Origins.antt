@@ -12,7 +12,7 @@ use Rattle.algebra.specs.Columns.{Cols}
 use Rattle.relation.specs.declared.Columns.{Columns}
 use Rattle.relation.specs.Rows.{columns, colsOf, columnsOf}
 use Rattle.query.specs.declared.Node.{Node}
-use Rattle.query.specs.declared.Node.the-variants.{Table, Var, Fact, Pair, Filter, Copy, Drop, Fix, Mu}
+use Rattle.query.specs.declared.Node.the-variants.{Table, Var, Fact, Pair, Filter, Copy, Drop, Fix, Mu, Last}
 use Rattle.query.specs.declared.Query.{Query}
 use Rattle.query.specs.declared.Facts.{Facts}
 use Rattle.query.specs.Lines.{nodeLimit}
@@ -54,6 +54,7 @@ originNumber (Copy a b) own last first c = copiedNumber last a b c
 originNumber (Drop a) own last first c = droppedNumber last a c
 originNumber (Fix v) own last first c = columns
 originNumber (Mu v) own last first c = columns
+originNumber (Last a) own last first c = last c
 
 abbrev pub lineOrigins : Node → Columns → NodeOrigins → NodeOrigins → NodeOrigins
 lineOrigins node own last first = record { from = tabulate (originNumber node (colsOf columns own) (numberAt last) (numberAt first)) columns }

@@ -92,6 +92,7 @@ fn origin_number(node: Node, own: Columns, last: NodeOrigins, first: NodeOrigins
         Node::Drop(a) => dropped_number(last, a as usize, c),
         Node::Fix(_) => COLUMNS,
         Node::Mu(_) => COLUMNS,
+        Node::Last(_) => number_at(last, c),
     }
 }
 

@@ -7,7 +7,7 @@ use lib.ListN.{take, drop, set}
 use Rattle.laws.specs.Lists.{if_then_else_}
 use Rattle.algebra.specs.declared.Pairing.the-variants.{Union}
 use Rattle.query.specs.declared.Node.{Node}
-use Rattle.query.specs.declared.Node.the-variants.{Table, Var, Fact, Pair, Filter, Copy, Drop, Fix, Mu}
+use Rattle.query.specs.declared.Node.the-variants.{Table, Var, Fact, Pair, Filter, Copy, Drop, Fix, Mu, Last}
 use Rattle.query.specs.declared.Line.{Line}
 use Rattle.query.specs.declared.Query.{Query}
 use Rattle.query.specs.Lines.{nodeLimit, line}
@@ -49,6 +49,7 @@ raisedLow r (Copy a b) = Copy a b
 raisedLow r (Drop a) = Drop a
 raisedLow r (Fix v) = Fix (min v nodeLimit + r)
 raisedLow r (Mu v) = Mu (min v nodeLimit + r)
+raisedLow r (Last c) = Last c
 
 -- the lines of a query from an index on, up to another, with their numbers raised
 abbrev pub againLines : Query → ℕ → ℕ → ℕ → List Node

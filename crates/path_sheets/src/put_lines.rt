@@ -143,6 +143,7 @@ fn raise_line(node: Node, by: usize) -> Node
         Node::Drop(_) => node,
         Node::Fix(v) => Node::Fix(raise_number(v, by)),
         Node::Mu(v) => Node::Mu(raise_number(v, by)),
+        Node::Last(_) => node,
     }
 }
 

@@ -3,7 +3,7 @@ use mathlib.Core.List.{List, [], _∷_, _++_}
 use Prim.Native.Nat.{ℕ, _+_}
 use Rattle.algebra.specs.declared.Pairing.the-variants.{Union, Join}
 use Rattle.query.specs.declared.Node.{Node}
-use Rattle.query.specs.declared.Node.the-variants.{Table, Var, Fact, Pair, Filter, Copy, Drop, Fix, Mu}
+use Rattle.query.specs.declared.Node.the-variants.{Table, Var, Fact, Pair, Filter, Copy, Drop, Fix, Mu, Last}
 use Rattle.paths.specs.Grammar.{PropertyPath, name, alternative, sequence, inverse, plus}
 use Rattle.paths.specs.Sheets.{recursions}
 
@@ -40,3 +40,4 @@ raised r (Copy a b) = Copy a b
 raised r (Drop a) = Drop a
 raised r (Fix v) = Fix (v + r)
 raised r (Mu v) = Mu (v + r)
+raised r (Last c) = Last c

@@ -6,7 +6,7 @@ use native.Mathlib.Omega.{arith}
 use lib.ListN.{length, take, drop as dropFirst, take-append-drop}
 use Rattle.laws.proofs.EachMember.{Each}
 use Rattle.laws.proofs.EmptyLists.{each-split}
-use Rattle.algebra.specs.Term.{Term, table, var, fact, pair, filter, copy, drop, fix, mu}
+use Rattle.algebra.specs.Term.{Term, table, var, fact, pair, filter, copy, drop, last, fix, mu}
 use Rattle.algebra.specs.Columns.{Schema}
 use Rattle.algebra.specs.Split.{split, mus}
 use Rattle.algebra.proofs.SplitTerms.{split-identity}
@@ -40,6 +40,7 @@ plain-mus (pair o a b) h = let (i, j) = two-plain (lines a) (lines b) (Pair o) h
 plain-mus (filter f a) h = plain-mus a (one-plain (lines a) _ h .0)
 plain-mus (copy c d a) h = plain-mus a (one-plain (lines a) _ h .0)
 plain-mus (drop c a) h = plain-mus a (one-plain (lines a) _ h .0)
+plain-mus (last c a) h = plain-mus a (one-plain (lines a) _ h .0)
 plain-mus (fix v a b) h = let (i, j) = two-plain (lines a) (lines b) (Fix v) h in rw (plain-mus a i, plain-mus b j)
 plain-mus (mu v a) h = absurd (one-plain (lines a) (Mu v) h .1 v refl)
 

@@ -8,7 +8,7 @@ use native.Mathlib.Omega.{arith}
 use Rattle.laws.proofs.Tests.{true-false}
 use Rattle.laws.proofs.EachMember.{Each, each-append}
 use Rattle.laws.proofs.EmptyLists.{true-or-false, append-none, each-split}
-use Rattle.algebra.specs.Term.{Term, table, var, fact, pair, filter, copy, drop, fix, mu}
+use Rattle.algebra.specs.Term.{Term, table, var, fact, pair, filter, copy, drop, last, fix, mu}
 use Rattle.algebra.specs.Columns.{Schema, size}
 use Rattle.algebra.specs.WellFormed.{Closed}
 use Rattle.algebra.specs.Split.{split, splits, mus}
@@ -17,7 +17,7 @@ use Rattle.algebra.proofs.SplitKeeps.{Carried, split-keeps}
 use Rattle.database.specs.Refusals.{accepted, noFault}
 use Rattle.database.proofs.Replies.{accepted-same, accepted-then, no-fault}
 use Rattle.query.specs.declared.Node.{Node}
-use Rattle.query.specs.declared.Node.the-variants.{Pair, Filter, Copy, Drop, Fix, Mu}
+use Rattle.query.specs.declared.Node.the-variants.{Pair, Filter, Copy, Drop, Fix, Mu, Last}
 use Rattle.query.specs.Lines.{onForm, lines}
 use Rattle.query.specs.Check.{unless, splitFaults, splitTerm}
 use Rattle.query.proofs.FirstPass.{unless-none}
@@ -32,6 +32,7 @@ all-split (pair o a b) n e = let (i, j) = append-none (splitFaults a n) _ .0 e i
 all-split (filter f a) n e = all-split a n e
 all-split (copy c d a) n e = all-split a n e
 all-split (drop c a) n e = all-split a n e
+all-split (last c a) n e = all-split a n e
 all-split (fix v a b) n e = let (i, j) = append-none (splitFaults a n) _ .0 e in rw (all-split a n i, all-split b (n + size a) j)
 all-split (mu v a) n e =
     let (i, j) = append-none (splitFaults a n) _ .0 e in
@@ -47,6 +48,7 @@ none-left (pair o a b) n e = append-none _ _ .1 (none-left a n (omega arith), no
 none-left (filter f a) n e = none-left a n e
 none-left (copy c d a) n e = none-left a n e
 none-left (drop c a) n e = none-left a n e
+none-left (last c a) n e = none-left a n e
 none-left (fix v a b) n e = append-none _ _ .1 (none-left a n (omega arith), none-left b (n + size a) (omega arith))
 none-left (mu v a) n e = elim (true-or-false (splits a)) [
   | inl s ↦ append-none _ _ .1 (none-left a n (sym (mu-split v (split a) (split-splits a ∙ s)) ∙ e), unless-none (splits a) _ .1 s)
@@ -97,6 +99,7 @@ module _ (w : ℕ) where
     of-filter = λ f a h. let (i, e) = one-parts (lines a) (Filter f) h in (i, λ x k. one-formed (lines x) (Filter f) e k);
     of-copy = λ c d a h. let (i, e) = one-parts (lines a) (Copy c d) h in (i, λ x k. one-formed (lines x) (Copy c d) e k);
     of-drop = λ c a h. let (i, e) = one-parts (lines a) (Drop c) h in (i, λ x k. one-formed (lines x) (Drop c) e k);
+    of-last = λ c a h. let (i, e) = one-parts (lines a) (Last c) h in (i, λ x k. one-formed (lines x) (Last c) e k);
     of-fix = λ v a b h. let (i, j, e) = two-parts (lines a) (lines b) (Fix v) h in (i, j, λ x y k l. two-formed (lines x) (lines y) (Fix v) e k l);
     of-mu = λ v a h.
         let (i, e) = one-parts (lines a) (Mu v) h in

@@ -5,7 +5,7 @@ use Prim.Native.Nat.{ℕ, _+_}
 use native.Mathlib.Omega.{arith}
 use lib.ListN.{length, length-append}
 use Rattle.laws.proofs.Passes.{walk, walk-append, walk-one}
-use Rattle.algebra.specs.Term.{Term, table, var, fact, pair, filter, copy, drop, fix, mu}
+use Rattle.algebra.specs.Term.{Term, table, var, fact, pair, filter, copy, drop, last, fix, mu}
 use Rattle.algebra.specs.Columns.{Cols, Schema, cols, size, fixNumbers}
 use Rattle.database.specs.declared.Refusal.{Refusal}
 use Rattle.query.specs.Check.{firstPass, secondPass}
@@ -44,6 +44,7 @@ module _ (G : Schema) where
   numbers-visits C v n (filter f a) = numbers-append (visits G C v n a) (visit n (filter f a) C v ∷ []) ∙ append-nil _ ∙ numbers-visits C v n a
   numbers-visits C v n (copy c d a) = numbers-append (visits G C v n a) (visit n (copy c d a) C v ∷ []) ∙ append-nil _ ∙ numbers-visits C v n a
   numbers-visits C v n (drop c a) = numbers-append (visits G C v n a) (visit n (drop c a) C v ∷ []) ∙ append-nil _ ∙ numbers-visits C v n a
+  numbers-visits C v n (last c a) = numbers-append (visits G C v n a) (visit n (last c a) C v ∷ []) ∙ append-nil _ ∙ numbers-visits C v n a
   numbers-visits C v n (fix u a b) =
       let l = visits G (cols G C a) (u ∷ v) (n + size a) b in
       numbers-append (visits G C v n a) (l ++ (visit n (fix u a b) C v ∷ []))
@@ -86,6 +87,10 @@ module _ (G : Schema) where
   first-walk (filter f a) s C v n = walk-last firstAt s (visits G C v n a) (visit n (filter f a) C v) (first-walk a s C v n) ∙ append-nil _
   first-walk (copy c d a) s C v n = walk-last firstAt s (visits G C v n a) (visit n (copy c d a) C v) (first-walk a s C v n) ∙ append-nil _
   first-walk (drop c a) s C v n = walk-last firstAt s (visits G C v n a) (visit n (drop c a) C v) (first-walk a s C v n) ∙ append-nil _
+  first-walk (last c a) s C v n =
+      let m : length (s ++ visits G C v n a) + 1 ≡ length s + (size a + 1) = omega (arith, seen-length s C v n a) in
+      walk-last firstAt s (visits G C v n a) (visit n (last c a) C v) (first-walk a s C v n)
+      ∙ ap (λ (m : ℕ). firstPass a v (numbers s) (length s) ++ scopeFaults (last c a) v [] m) m
   first-walk (fix u a b) s C v n =
       let k = visits G C v n a in
       let D = cols G C a in
@@ -123,6 +128,7 @@ module _ (G : Schema) where
   second-walk (filter f a) s C v n = second-last (filter f a) a s C v n (second-walk a s C v n)
   second-walk (copy c d a) s C v n = second-last (copy c d a) a s C v n (second-walk a s C v n)
   second-walk (drop c a) s C v n = second-last (drop c a) a s C v n (second-walk a s C v n)
+  second-walk (last c a) s C v n = second-last (last c a) a s C v n (second-walk a s C v n)
   second-walk (fix u a b) s C v n =
       let k = visits G C v n a in
       let D = cols G C a in

@@ -8,7 +8,7 @@ use Rattle.laws.specs.Lists.{if_then_else_, _==_, every, all, member}
 use Rattle.algebra.specs.declared.Pairing.{Pairing}
 use Rattle.algebra.specs.declared.Pairing.the-variants.{Union, Join, Except}
 use Rattle.algebra.specs.Mapping.{Relation}
-use Rattle.algebra.specs.Term.{Term, meaning, table, var, fact, pair, filter, copy, drop, fix, mu}
+use Rattle.algebra.specs.Term.{Term, meaning, table, var, fact, pair, filter, copy, drop, last, fix, mu}
 use Rattle.algebra.specs.Columns.{Cols, noCols, Schema, cols, free, isClosed, size, fixNumbers, named}
 use Rattle.algebra.specs.Split.{split, splits}
 use Rattle.database.specs.declared.Database.{Database}
@@ -34,6 +34,7 @@ splitFaults (pair o a b) n = splitFaults a n ++ splitFaults b (n + size a)
 splitFaults (filter f a) n = splitFaults a n
 splitFaults (copy c d a) n = splitFaults a n
 splitFaults (drop c a) n = splitFaults a n
+splitFaults (last c a) n = splitFaults a n
 splitFaults (fix v a b) n = splitFaults a n ++ splitFaults b (n + size a)
 splitFaults (mu v a) n = splitFaults a n ++ unless (splits a) (Unsplit (n + size (mu v a)))
 
@@ -49,8 +50,9 @@ pairFaults Union left right n = unless (left == right) (HalfOpen n)
 pairFaults Join left right n = unless (left || right) (OpenJoin n)
 pairFaults Except left right n = unless right (OpenExcept n)
 
--- "First pass, lowest node first, then lowest number: 4 to 8." The term's lines follow n others; around: the numbers of the fixes in
--- whose step it lies; taken: those of the fixes of lower nodes. A mu that is left got 20: a sheet that has passed it has none.
+-- "First pass, lowest node first, then lowest number: 4 to 8." Of a `last`, U9: "an open operand is refused with 5 at that line". The term's lines follow n
+-- others; around: the numbers of the fixes in whose step it lies; taken: those of the fixes of lower nodes. A mu that is left got 20: a sheet that has passed it
+-- has none.
 unfoldable pub firstPass : Term → List ℕ → List ℕ → ℕ → List Refusal
 firstPass (table t) around taken n = []
 firstPass (var v) around taken n = unless (member v around) (Scope (n + 1))
@@ -61,6 +63,7 @@ firstPass (pair o a b) around taken n =
 firstPass (filter f a) around taken n = firstPass a around taken n
 firstPass (copy c d a) around taken n = firstPass a around taken n
 firstPass (drop c a) around taken n = firstPass a around taken n
+firstPass (last c a) around taken n = firstPass a around taken n ++ unless (isClosed a) (OpenExcept (n + size (last c a)))
 firstPass (fix v a b) around taken n =
     firstPass a around taken n
     ++ (firstPass b (v ∷ around) (taken ++ fixNumbers a) (n + size a)
@@ -89,6 +92,7 @@ secondPass G (pair o a b) C n =
 secondPass G (filter f a) C n = secondPass G a C n ++ unless (every (cols G C a) (named f)) (ColumnFault (n + size (filter f a)))
 secondPass G (copy c d a) C n = secondPass G a C n ++ unless (cols G C a c && not (cols G C a d)) (ColumnFault (n + size (copy c d a)))
 secondPass G (drop c a) C n = secondPass G a C n ++ unless (cols G C a c) (ColumnFault (n + size (drop c a)))
+secondPass G (last c a) C n = secondPass G a C n ++ unless (cols G C a c) (ColumnFault (n + size (last c a)))
 secondPass G (fix v a b) C n =
     secondPass G a C n
     ++ (secondPass G b (cols G C a) (n + size a)

@@ -4,7 +4,7 @@ use mathlib.Core.List.{List, [], _∷_, _++_, map}
 use Prim.Native.Nat.{ℕ, _+_, _-_}
 use lib.ListN.{length, replicate}
 use Rattle.laws.specs.Lists.{member, tabulate}
-use Rattle.algebra.specs.Term.{Term, table, var, fact, pair, filter, copy, drop, fix, mu}
+use Rattle.algebra.specs.Term.{Term, table, var, fact, pair, filter, copy, drop, last, fix, mu}
 use Rattle.algebra.specs.Columns.{Cols, noCols, Schema, cols, free, size}
 use Rattle.relation.specs.declared.Columns.{Columns}
 use Rattle.relation.specs.Rows.{columnsOf}
@@ -35,6 +35,7 @@ visits G C v n (pair o a b) =
 visits G C v n (filter f a) = visits G C v n a ++ (record { start = n; term = filter f a; variable = C; around = v } ∷ [])
 visits G C v n (copy c d a) = visits G C v n a ++ (record { start = n; term = copy c d a; variable = C; around = v } ∷ [])
 visits G C v n (drop c a) = visits G C v n a ++ (record { start = n; term = drop c a; variable = C; around = v } ∷ [])
+visits G C v n (last c a) = visits G C v n a ++ (record { start = n; term = last c a; variable = C; around = v } ∷ [])
 visits G C v n (fix u a b) =
     visits G C v n a
     ++ (visits G (cols G C a) (u ∷ v) (n + size a) b ++ (record { start = n; term = fix u a b; variable = C; around = v } ∷ []))

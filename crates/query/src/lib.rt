@@ -24,6 +24,7 @@ pub enum Node {
     Drop(u32),
     Fix(u32),
     Mu(u32),
+    Last(u32),
 }
 
 pub struct Line {

@@ -117,5 +117,6 @@ pub fn find(query: Query, facts: Facts, kind: u32, i: usize) -> Found
         Node::Drop(column) => drop_found(query, kind, i, column),
         Node::Fix(_) => Found::Nothing,
         Node::Mu(_) => Found::Nothing,
+        Node::Last(_) => Found::Nothing,
     }
 }

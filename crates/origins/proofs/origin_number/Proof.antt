@@ -30,9 +30,13 @@ returns-6 c = let m = c .before .before in c .copied-number .ensures ∙ ap (ans
 returns-7 : tie.Need-returns-7
 returns-7 c = let m = c .before .before in c .dropped-number .ensures ∙ ap (answer (m .before .before)) (sym (m .node3 .given .1))
 
+returns-10 : tie.Need-returns-10
+returns-10 c = c .number-at4 .ensures ∙ ap (answer (c .before .before .before)) (sym (c .before .enum-told7 .given .1))
+
 pub origin-number-spec : {M : Type 1} → statement M
 origin-number-spec =
     tie.close (tie.spec (λ c. search needs) (λ c. search needs) (λ c κs. search needs) (λ c. search needs) (λ c. search needs) (λ c κs. search needs)
-    (λ c κs. search needs) (λ c κs. search needs) (λ c. search needs) (λ c κs. search needs) (λ c. search needs) (λ c. search needs) (λ c. search needs)
-    (λ c κs. search needs) (λ c. search needs) (λ c. search needs) (λ c κs. search needs) (λ c. search needs) (λ c. search needs)
-    (λ c. search needs) returns-2 (λ c. search needs) returns-4 returns-5 returns-6 returns-7 (λ c. search needs) (λ c. search needs))
+    (λ c κs. search needs) (λ c κs. search needs) (λ c. search needs) (λ c κs. search needs) (λ c. search needs) (λ c. search needs)
+    (λ c. search needs) (λ c κs. search needs) (λ c. search needs) (λ c. search needs) (λ c κs. search needs) (λ c. search needs) (λ c. search needs)
+    (λ c. search needs) (λ c κs. search needs) (λ c. search needs) returns-2 (λ c. search needs) returns-4 returns-5 returns-6 returns-7
+    (λ c. search needs) (λ c. search needs) returns-10)
