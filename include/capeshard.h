@@ -39,7 +39,7 @@ enum {
     CAPESHARD_ALLOWANCE_ROOM = 1
 };
 
-/* The codes of lines, in the order of document 01's table, and of document 02's mu. */
+/* The codes of lines, in the order of document 01's table, and of document 02's mu and last. */
 enum {
     CAPESHARD_TABLE = 1, /* table=a */
     CAPESHARD_VAR = 2, /* var=a */
@@ -54,12 +54,16 @@ enum {
     CAPESHARD_COPY = 11, /* copy=a,b */
     CAPESHARD_DROP = 12, /* drop=a */
     CAPESHARD_FIX = 13, /* fix=a */
-    CAPESHARD_MU = 15 /* mu=a; 14 is a plan's code */
+    CAPESHARD_MU = 15, /* mu=a; 14 is a plan's code */
+    CAPESHARD_LAST = 16 /* last=a */
 };
 
 /* A mu takes one operand, its body. Before 4 is tested each mu is split into a fix with one node fewer, whose seed are the closed branches of the body
  * and whose step the open ones (20 if either is missing). The places of 4 to 10, the nodes of rewrites, plans and registers count in the split query;
  * limit, and the places of 1, 3 and 20, in the query as given. */
+
+/* A last keeps a row exactly if no other row agrees with it in every other column and holds more in column a. Adding rows can remove its results, so an
+ * open operand gets 5 with the node of the last. No kind of rewrite moves it (12). */
 
 /* The number of a refusal (0 of an accepted call) and its place, a line, a node, a table or a path's byte; a place over 4,294,967,295 is given as that. */
 #define CAPESHARD_NUMBER(status) ((uint32_t)((status) >> 32))

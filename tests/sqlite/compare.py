@@ -17,6 +17,10 @@ a fix within a step is closed. What SQLite does not finish in STEPS steps of its
 
 A `mu` is `WITH RECURSIVE` over its body as typed, and nothing is split: the body's SELECTs are united, those that don't read the
 recursive table first, as SQLite wants them. Its columns are those of the body, whose variable's are those of a branch without it.
+
+A `last=C` is the rows of its operand's expression for which NOT EXISTS a row of that same expression, called `other`, that is equal in
+every other column and has a greater C. Its operand is closed, so it is never in a recursive term. Whether one drops rows is asked apart
+and counted.
 """
 import collections
 import pathlib
@@ -82,6 +86,8 @@ class Sheet:
             if key in ("fix", "mu"):
                 self.fix_of[int(value)] = node
         self.root = waiting.pop()
+        # Whether a `last` drops rows over the book.
+        self.drops = False
         self.free = [self.variables(node) for node in range(len(self.lines))]
 
     def variables(self, node):
@@ -136,19 +142,25 @@ class Sheet:
             return [without(left, self.table(self.operands[node][1])) for left in below[0]]
         if key == "mu":
             return sorted(below[0], key=lambda term: f"n{node}" in term.tables)
+        if key == "last":
+            return [newest(value[0], self.operands[node][0], below[0][0])]
         return [single(key, value, term) for term in below[0]]
 
     def table(self, node):
         return named(f"n{node}", self.columns(node))
 
-    def statement(self):
+    def asked(self, sought):
+        """A statement over the expressions of the closed nodes."""
         expressions = [
             f"n{node}({names(self.columns(node))}) AS ({' UNION '.join(term.select() for term in self.terms(node))})"
             for node in range(len(self.lines))
             if not self.free[node]
         ]
+        return f"WITH RECURSIVE {', '.join(expressions)} SELECT {sought}"
+
+    def statement(self):
         order = names(self.columns(self.root))
-        return f"WITH RECURSIVE {', '.join(expressions)} SELECT {order} FROM n{self.root} ORDER BY {order}"
+        return self.asked(f"{order} FROM n{self.root} ORDER BY {order}")
 
     def traits(self):
         """What is worth counting."""
@@ -159,6 +171,9 @@ class Sheet:
         if any(self.lines[node][0] in ("fix", "mu") for step in steps for node in self.below(step)):
             yield "fix or mu in a step or body"
         yield from {trait for node, (key, _) in enumerate(self.lines) if key == "mu" for trait in self.mu_traits(node)}
+        yield from {trait for node, (key, _) in enumerate(self.lines) if key == "last" for trait in self.last_traits(node)}
+        if self.drops:
+            yield "last that drops rows"
         if not self.columns(self.root):
             yield "no columns"
 
@@ -180,6 +195,28 @@ class Sheet:
             yield "mu in a mu"
         if any(self.lines[inner] == ("pair", "union") for branch in branches for inner in self.below(branch)):
             yield "mu with a union under another line"
+
+    def last_traits(self, node):
+        """Where a `last` stands."""
+        below = self.operands[node][0]
+        if len(self.columns(below)) == 1:
+            yield "last of one column"
+        if self.lines[below][0] in ("fix", "mu"):
+            yield "last over a fix or mu"
+        for around, (key, _) in enumerate(self.lines):
+            sides = self.operands[around]
+            if key == "fix" and node in self.below(sides[0]):
+                yield "last in a seed"
+            if key == "fix" and node in self.below(sides[1]):
+                yield "last in a step"
+            if key == "mu" and node in self.below(sides[0]):
+                yield "last in a body"
+
+    def kept(self):
+        """For each `last` a statement that tells whether it drops rows."""
+        for node, (key, _) in enumerate(self.lines):
+            if key == "last":
+                yield self.asked(f"(SELECT count(*) FROM n{node}) < (SELECT count(*) FROM n{self.operands[node][0]})")
 
     def branches(self, node):
         if self.lines[node] != ("pair", "union"):
@@ -207,6 +244,14 @@ def joined(left, right):
 def without(left, right):
     fitting = Term(right.tables, equal(left.values, right.values), {})
     return left._replace(where=left.where + (f"NOT EXISTS ({fitting.select()})",))
+
+
+def newest(column, operand, term):
+    """The rows of a closed operand that no other row replaces."""
+    agreeing = equal(term.values, {c: f"other.c{c}" for c in term.values if c != column})
+    greater = f"other.c{column} > {term.values[column]}"
+    replacing = Term((f"n{operand} AS other",), (*agreeing, greater), {})
+    return term._replace(where=(f"NOT EXISTS ({replacing.select()})",))
 
 
 def single(key, value, term):
@@ -244,6 +289,7 @@ def queried(sheet, book):
         read = Sheet(sheet, load(database, book))
         database.set_progress_handler(lambda: 1, STEPS)
         rows = database.execute(read.statement()).fetchall()
+        read.drops = any(database.execute(statement).fetchone()[0] for statement in read.kept())
     except sqlite3.OperationalError as error:
         if str(error) == "interrupted":
             return read, None

@@ -217,11 +217,14 @@ pub enum Line {
     Fix(u32),
     /// Recursion typed in one piece: its one operand is split into the seed and the step of a fix.
     Mu(u32),
+    /// Keeps a row exactly if no other row agrees with it in every other column and holds more in this one. An open operand is refused (5).
+    Last(u32),
 }
 
 const FIX: u32 = 13;
 const START: u32 = 14;
 const MU: u32 = 15;
+const LAST: u32 = 16;
 
 impl Line {
     fn flat(self) -> [u32; LINE_ENTRIES] {
@@ -240,6 +243,7 @@ impl Line {
             Line::Drop(a) => [12, a, 0],
             Line::Fix(v) => [FIX, v, 0],
             Line::Mu(v) => [MU, v, 0],
+            Line::Last(c) => [LAST, c, 0],
         }
     }
 
@@ -260,6 +264,7 @@ impl Line {
             12 => Line::Drop(a),
             FIX => Line::Fix(a),
             MU => Line::Mu(a),
+            LAST => Line::Last(a),
             code => unreachable!("no line has the code {code}"),
         }
     }
@@ -314,6 +319,10 @@ pub enum Op {
         from: u32,
         column: u32,
     },
+    Last {
+        from: u32,
+        column: u32,
+    },
     /// A fix's start: its newest rows' register, the seed's, and how many lines the path has.
     Start {
         delta: u32,
@@ -360,6 +369,7 @@ impl PlanLine {
             12 => Op::Drop { from: a, column: b },
             FIX => Op::Again { delta: a, from: b, path: c },
             START => Op::Start { delta: a, from: b, path: c },
+            LAST => Op::Last { from: a, column: b },
             code => unreachable!("no plan line has the code {code}"),
         };
         PlanLine { to: entries[1], op }

@@ -269,7 +269,7 @@ pub fn over(random: &mut Random, query: &Query, database: &Database) -> Slices {
 
 /// Puts numbers at and past the ends of ranges into the first entries of a slice.
 pub fn harm(random: &mut Random, slice: &mut [u32], used: usize) {
-    const NUMBERS: [u32; 18] = [0, 1, 2, 5, 7, 8, 13, 14, 15, 16, 32, 33, 128, 129, 255, 256, 1 << 31, u32::MAX];
+    const NUMBERS: [u32; 19] = [0, 1, 2, 5, 7, 8, 13, 14, 15, 16, 17, 32, 33, 128, 129, 255, 256, 1 << 31, u32::MAX];
     for _ in 0..1 + random.below(3) {
         let at = if random.once_in(8) { 0 } else { random.below(used.min(slice.len()).max(1)) };
         if let Some(entry) = slice.get_mut(at) {

@@ -1,12 +1,14 @@
 //! Compares the engine with the reference, call by call: `differential SEED COUNT` on the inputs of COUNT seeds from SEED
 //! on. A case is one call: the reply and all lent slices afterwards, the rows of a path's run beside what the path links, or the
 //! lines of a run beside the product. A difference prints its seed and both sides. Then texts of at most one byte, the rows and
-//! lines run of each workload of bench/, and texts with each byte at each place. The last line is 'N passed, M failed'.
+//! lines run of each workload of bench/, lines of every code, a `last` over 4,096 rows, and texts with each byte at each place. The
+//! last line is 'N passed, M failed'.
 
 mod allowance;
 mod at;
 mod call;
 mod inputs;
+mod last;
 mod measured;
 mod paths;
 mod slices;
@@ -64,11 +66,14 @@ fn main() -> ExitCode {
         calls(&mut tally, inputs::inputs(&mut Random::new(seed)));
         paths::cases(&mut Random::new(seed), &mut tally);
         allowance::cases(&mut Random::new(seed), &mut tally);
+        last::cases(&mut Random::new(seed), &mut tally);
         wrapper::cases(&mut Random::new(seed), &mut tally);
     }
     calls(&mut tally, inputs::shortest(&mut Random::new(seed)));
     wrapper::shortest(&mut tally);
     measured::cases(&mut tally);
+    last::flat_lines(&mut tally);
+    last::measured(&mut tally);
     tally.print_met();
     // Fewer inputs may miss a kind or a number.
     if count >= COUNT {

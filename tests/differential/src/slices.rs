@@ -8,6 +8,8 @@ use reference::value::{Database, Node, Query, NODES, TABLES};
 pub const LINE: usize = 3;
 /// The code of a `mu`. No query has a line of the code before it, which is that of a plan's start.
 const MU: u32 = 15;
+/// The code of a `last`, in queries and in plans.
+pub const LAST: u32 = 16;
 pub const QUERY_ROOM: usize = 1 + LINE * NODES;
 pub const TABLE: usize = 2;
 pub const DATABASE_ROOM: usize = 1 + TABLE * TABLES as usize;
@@ -47,6 +49,7 @@ fn line_of(node: &Node) -> [u32; LINE] {
         Node::Drop(a) => two(12, a, 0),
         Node::Fix(v) => two(13, v, 0),
         Node::Mu(v) => two(MU, v, 0),
+        Node::Last(c) => two(LAST, c, 0),
     }
 }
 
@@ -72,6 +75,7 @@ fn node_of(line: &[u32]) -> Node {
         12 => Node::Drop(a),
         13 => Node::Fix(a),
         MU => Node::Mu(a),
+        LAST => Node::Last(a),
         // Another code is a line off the form.
         _ => Node::Table(u8::MAX),
     }
@@ -88,10 +92,18 @@ pub fn query_of(flat: &[u32], limit: usize) -> Query {
     Query { nodes: flat[1..QUERY_ROOM].chunks(LINE).take(limit).map(node_of).collect(), count: flat[0] }
 }
 
-/// Whether a query in a slice with room for it has a `mu`.
-pub fn has_mu(flat: &[u32]) -> bool {
+/// Whether a query in a slice with room for it has a line of a code.
+fn has(code: u32, flat: &[u32]) -> bool {
     let lines = || flat[1..].chunks_exact(LINE);
-    flat.first().is_some_and(|count| lines().take(*count as usize).any(|line| line[0] == MU))
+    flat.first().is_some_and(|count| lines().take(*count as usize).any(|line| line[0] == code))
+}
+
+pub fn has_mu(flat: &[u32]) -> bool {
+    has(MU, flat)
+}
+
+pub fn has_last(flat: &[u32]) -> bool {
+    has(LAST, flat)
 }
 
 pub fn bits_of(columns: &Columns) -> u32 {
@@ -136,6 +148,7 @@ fn slot_of(line: &Line, checked: &Checked) -> [u32; SLOT] {
         Operation::Filter(Condition::Same(c, d)) => filter(10, c, d.into()),
         Operation::Copy(a, b) => filter(11, a, b.into()),
         Operation::Drop(a) => filter(12, a, 0),
+        Operation::Last(c) => filter(LAST, c, 0),
         Operation::Again { delta } => of_fix(13, delta),
         Operation::Start { delta } => of_fix(14, delta),
     };

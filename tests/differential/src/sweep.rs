@@ -11,8 +11,8 @@ use reference::value::{Database, COLUMNS, NODES};
 
 /// Every kind of line.
 const SHEET: &[u8] =
-    b"guide=1\nnodes=14\ntable=9\nvar=1\nfact=0,4294967295\npair=union\npair=join\npair=except\neq=3,429496729\n\
-    ne=5,0\nmax=6,1850\nsame=2,7\ncopy=4,0\ndrop=7\nfix=15\nmu=10\n";
+    b"guide=1\nnodes=15\ntable=9\nvar=1\nfact=0,4294967295\npair=union\npair=join\npair=except\neq=3,429496729\n\
+    ne=5,0\nmax=6,1850\nsame=2,7\ncopy=4,0\ndrop=7\nfix=15\nmu=10\nlast=4\n";
 
 /// Values that another digit makes too large or puts out of order.
 const BOOK: &[u8] = b"guide=1\ntables=2\ncols=0,1\nrows=3\nrow=0,98\nrow=1,429496729\nrow=31,4294967295\n\

@@ -2,8 +2,9 @@
 
 use crate::allowance;
 use crate::call::Call;
+use crate::last;
 use crate::paths;
-use crate::slices::{database_of, has_mu, query_of, Slices};
+use crate::slices::{database_of, has_last, has_mu, query_of, Slices, QUERY_ROOM};
 use reference::panel;
 use reference::properties::comes_home::{by_origin_alone, causes, CAUSES};
 use reference::value::{Refusal, NODES};
@@ -14,7 +15,7 @@ const SHOWN: u64 = 20;
 
 /// Calls of the header that are made at the desk; those after them are the panel's.
 const DESK_CALLS: usize = 8;
-const CALLS: usize = 15;
+pub const CALLS: usize = 15;
 /// The calls that meet no `mu`: those that read a path or a database.
 const WITHOUT_MU: [usize; 3] = [1, 2, 9];
 
@@ -46,6 +47,7 @@ pub struct Tally {
     pub empty: u64,
     pub paths: paths::Met,
     pub allowance: allowance::Met,
+    pub last: last::Met,
 }
 
 impl Tally {
@@ -92,8 +94,14 @@ impl Tally {
             return;
         }
         let reads = matches!(call, Call::ReadQuery { .. } | Call::PanelReadQuery);
-        if has_mu(if reads { &slices.query } else { &given.query }) {
+        let query = if reads { &slices.query } else { &given.query };
+        if has_mu(query) {
             self.meet_mu(call, sort, at, reply);
+        }
+        // The slice of a refused text, or one below its room, holds no query.
+        let held = query.len() >= QUERY_ROOM && (reply.is_ok() || !reads);
+        if held && has_last(query) {
+            self.last.meet(at, sort, call, reply, given);
         }
         if let Call::Rewrite { kind, node, .. } | Call::PanelRewrite { kind, node } = call {
             self.meet_stability(at, reply, given, (kind, node));
@@ -163,13 +171,14 @@ impl Tally {
         println!("finished runs over a database read from zero bytes: {}", self.empty);
         self.paths.print();
         self.allowance.print();
+        self.last.print();
     }
 
     /// A case of its own: every call was accepted and at desk and panel every kind; every number was given, 16 never at the
     /// panel; runs were refused over each limit, and at the panel some finished with the most nodes and rows; filters met 0, and
     /// runs finished over a book of zero bytes. Queries with a `mu` met every call but those that read a path or a database and
     /// every kind, 20 at both, and 3 to 10 at one or the other. Columns came home under every kind that asks for stable ones, and
-    /// 13 had every cause at desk and panel. Paths and products met what they had to.
+    /// 13 had every cause at desk and panel. Paths, products and last issues met what they had to.
     pub fn all_met(&mut self) {
         let accepted = self.accepted.iter().chain(self.kinds.iter().flat_map(|kinds| &kinds[1..]));
         let given = self.numbers[0][1..].iter();
@@ -184,13 +193,13 @@ impl Tally {
         let met = accepted.chain(given).chain(refused).chain(mus).chain(mu_kinds).chain(homes).all(|times| *times > 0);
         let most = self.most[1][..2] == [panel::NODES as u32, panel::ROW_LIMIT];
         let zeros = self.unknown > 0 && self.empty > 0;
-        let requests = self.paths.all_met() && self.allowance.all_met();
+        let requests = self.paths.all_met() && self.allowance.all_met() && self.last.all_met();
         if met && mu_numbers && self.numbers[1][16] == 0 && most && zeros && requests {
             self.passed += 1;
         } else {
             println!(
                 "FAILED every call and kind is accepted, every number given, every limit, 0 under filters, an empty book, mu, \
-                columns that come home, paths and products met"
+                columns that come home, paths, products and last issues met"
             );
             self.failed += 1;
         }

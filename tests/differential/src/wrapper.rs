@@ -35,6 +35,7 @@ fn line_of(node: &Node) -> Line {
         Node::Drop(a) => Line::Drop(a.into()),
         Node::Fix(v) => Line::Fix(v.into()),
         Node::Mu(v) => Line::Mu(v.into()),
+        Node::Last(c) => Line::Last(c.into()),
     }
 }
 
@@ -62,6 +63,7 @@ fn plan_line_of(line: &plan::Line, checked: &Checked) -> PlanLine {
         Operation::Filter(Condition::Same(c, d)) => Op::Same { from: source(0), column: c.into(), other: d.into() },
         Operation::Copy(a, b) => Op::Copy { from: source(0), column: a.into(), new: b.into() },
         Operation::Drop(a) => Op::Drop { from: source(0), column: a.into() },
+        Operation::Last(c) => Op::Last { from: source(0), column: c.into() },
         Operation::Start { delta } => Op::Start { delta: delta as u32, from: source(0), path },
         Operation::Again { delta } => Op::Again { delta: delta as u32, from: source(0), path },
     };
@@ -171,8 +173,8 @@ pub fn cases(random: &mut Random, tally: &mut Tally) {
 /// Row limit of the run that tells what a query's columns hold.
 const MOST: usize = 40;
 
-/// A query that answers and has room for a line, under each filter with a value. Half of the values are the column's own, so
-/// that most filters keep some rows and stop others.
+/// A query that answers and has room for a line, under each filter with a value and a `last`. Half of the values are the column's own,
+/// so that most filters keep some rows and stop others.
 fn filtered(random: &mut Random, tally: &mut Tally, database: &Database, query: &Query) -> Vec<Query> {
     let Ok(answer) = desk_run(database, query, MOST, u32::MAX) else {
         return Vec::new();
@@ -185,9 +187,9 @@ fn filtered(random: &mut Random, tally: &mut Tally, database: &Database, query: 
     let own = if random.once_in(2) { random.pick(values.clone()) } else { None };
     let value = own.unwrap_or([0, 1, 4, u32::MAX][random.below(4)]);
     tally.unknown += u64::from(values.contains(&0));
-    [Condition::Eq(column, value), Condition::Ne(column, value), Condition::Max(column, value)]
-        .map(|condition| Query::new(&[query.lines(), &[Node::Filter(condition)]].concat(), NODES))
-        .into()
+    let filters = [Condition::Eq(column, value), Condition::Ne(column, value), Condition::Max(column, value)];
+    let lines = filters.map(Node::Filter).into_iter().chain([Node::Last(column)]);
+    lines.map(|line| Query::new(&[query.lines(), &[line]].concat(), NODES)).collect()
 }
 
 fn texts(random: &mut Random, tally: &mut Tally, mut sheet: Vec<u8>, mut book: Vec<u8>) {

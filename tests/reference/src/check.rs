@@ -52,6 +52,8 @@ fn first_pass(root: &Term) -> Result<(), Refusal> {
                     Pairing::Union => vec![(8, left != right)],
                 }
             }
+            // Adding rows can remove its results.
+            Node::Last(_) => vec![(5, !term.operands[0].closed())],
             _ => vec![],
         };
         if let Some((number, _)) = faults.iter().find(|(_, present)| *present) {
@@ -84,7 +86,7 @@ fn second_pass(root: &Term, schema: &[Columns]) -> Result<Vec<Columns>, Refusal>
             Node::Pair(Pairing::Join) => Ok(of(0) | of(1)),
             Node::Pair(Pairing::Except) => Ok(of(0).clone()),
             Node::Pair(Pairing::Union) | Node::Fix(_) if of(0) == of(1) => Ok(of(0).clone()),
-            Node::Filter(_) if named() => Ok(of(0).clone()),
+            Node::Filter(_) | Node::Last(_) if named() => Ok(of(0).clone()),
             Node::Copy(a, b) if of(0).contains(&a) && !of(0).contains(&b) => Ok(of(0) | &Columns::from([b])),
             Node::Drop(a) if named() => Ok(of(0) - &Columns::from([a])),
             Node::Mu(_) => unreachable!("the query is split"),

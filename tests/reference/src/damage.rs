@@ -11,7 +11,7 @@ pub fn query(random: &mut Random, query: &Query) -> Query {
     let mut lines = query.lines().to_vec();
     for _ in 0..1 + random.below(3) {
         let at = random.below(lines.len());
-        match random.below(8) {
+        match random.below(9) {
             0 => lines[at] = random::node(random),
             1 => {
                 let to = random.below(lines.len());
@@ -27,9 +27,14 @@ pub fn query(random: &mut Random, query: &Query) -> Query {
             }
             5 => retyped(&mut lines, at, query.nodes.len()),
             6 => bound(random, &mut lines, at),
+            7 if lines.len() < query.nodes.len() => {
+                // Over any node, an open one too, and with a column that it may lack.
+                lines.insert(at + 1, Node::Last(random.below(4) as u8));
+            }
             _ => {
                 lines[at] = match lines[at] {
                     Node::Drop(_) => Node::Drop(random.below(4) as u8),
+                    Node::Last(_) => Node::Last(random.below(4) as u8),
                     Node::Copy(a, _) => Node::Copy(a, random.below(4) as u8),
                     Node::Table(_) => Node::Table(random.below(5) as u8),
                     Node::Pair(_) => Node::Pair([Pairing::Union, Pairing::Join, Pairing::Except][random.below(3)]),
@@ -115,7 +120,8 @@ impl Spoiler<'_> {
             Some(Spoiling::Covered) => {
                 self.write(&term.operands[0]);
                 let column = self.random.below(COLUMNS) as u8;
-                let above = [Node::Drop(column), Node::Copy(column, 7), Node::Filter(Condition::Ne(column, 9))];
+                let filter = Node::Filter(Condition::Ne(column, 9));
+                let above = [Node::Drop(column), Node::Copy(column, 7), Node::Last(column), filter];
                 self.lines.push(above[self.random.below(above.len())]);
             }
             Some(left) => self.write_branches(&term.operands[0], left == Spoiling::NoOpen),
@@ -147,7 +153,7 @@ impl Spoiler<'_> {
 /// A text with one or two edits of bytes, numbers or lines.
 pub fn text(random: &mut Random, text: &[u8]) -> Vec<u8> {
     const NUMBERS: [&str; 9] = ["", "00", "01", "7", "8", "15", "16", "4294967295", "4294967296"];
-    const BYTES: &[u8] = b"0123456789,=\n\n\r -+aeimrux\0\x80";
+    const BYTES: &[u8] = b"0123456789,=\n\n\r -+aeilmrstux\0\x80";
     let mut text = text.to_vec();
     for _ in 0..1 + random.below(2) {
         let at = random.below(text.len() + 1);

@@ -3,6 +3,7 @@
 mod allowance;
 mod comes_home;
 mod in_one_piece;
+mod last_issues;
 mod on_the_panel;
 mod paths;
 
@@ -23,7 +24,8 @@ pub fn examples() -> Vec<Outcome> {
     };
     let base = [starred(), exact_queries(), exact_plans(), lent()].concat();
     let requests = [on_the_panel::examples(), in_one_piece::examples(), comes_home::examples(), paths::examples()];
-    [base, requests.concat(), allowance::examples()].concat().into_iter().map(outcome).collect()
+    let later = [allowance::examples(), last_issues::examples()];
+    [base, requests.concat(), later.concat()].concat().into_iter().map(outcome).collect()
 }
 
 const REACH: &str = "table=0 var=1 copy=1,2 drop=1 table=0 copy=0,2 drop=0 pair=join drop=2 fix=1";

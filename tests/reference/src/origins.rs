@@ -38,7 +38,9 @@ pub fn origins(checked: &Checked, term: &Term) -> Origins {
         }
         // These keep rows as they are: `same` gives no origin either.
         Node::Filter(_) | Node::Pair(Pairing::Except) => of(0),
-        Node::Table(_) | Node::Fact(..) | Node::Fix(_) | Node::Mu(_) => unreachable!("a closed node is on no path"),
+        Node::Table(_) | Node::Fact(..) | Node::Last(_) | Node::Fix(_) | Node::Mu(_) => {
+            unreachable!("a closed node is on no path")
+        }
     }
 }
 

@@ -5,6 +5,7 @@ mod bytes;
 pub mod comes_home;
 mod desk_and_panel;
 mod first_day;
+mod last_issues;
 mod one_piece;
 mod paths;
 
@@ -23,7 +24,7 @@ use crate::value::{slots_of, Database, Node, Query, Refusal, COLUMNS};
 
 /// What random inputs have met: accepted rewrites by kind, refusals by number, filters over rows with a 0 in their column and
 /// those of them that were pushed into a recursion, and what bytes of lines, books of zero bytes, desk and panel, recursions typed
-/// in one piece, columns that come home, property paths and products have.
+/// in one piece, columns that come home, property paths, products and last issues have.
 #[derive(Default)]
 pub struct Coverage {
     pub kinds: [u32; 7],
@@ -36,6 +37,7 @@ pub struct Coverage {
     pub comes_home: comes_home::Met,
     pub paths: paths::Met,
     pub allowance: allowance::Met,
+    pub last_issues: last_issues::Met,
 }
 
 impl Coverage {
@@ -44,8 +46,8 @@ impl Coverage {
     }
 
     /// Each kind was accepted and each number given; filters met 0, also in a recursion; what bytes of lines and books of zero
-    /// bytes met, the panel's share of it, and that of recursions typed in one piece, of columns that come home, of property paths
-    /// and of products.
+    /// bytes met, the panel's share of it, and that of recursions typed in one piece, of columns that come home, of property paths,
+    /// of products and of last issues.
     pub fn outcomes(&self) -> Vec<Outcome> {
         let seen = format!("accepted by kind {:?}, refused by number {:?}", &self.kinds[1..], &self.numbers[1..]);
         let full = self.kinds[1..].iter().chain(&self.numbers[1..]).all(|times| *times > 0);
@@ -56,7 +58,7 @@ impl Coverage {
         let unknown = ("filters meet unknown values".to_string(), if met { Ok(seen) } else { Err(seen) });
         let single = vec![all, unknown, self.bytes.outcome(), self.first_day.outcome(), self.panel.outcome()];
         let of_requests = [self.one_piece.outcomes(), self.comes_home.outcomes(), self.paths.outcomes()].concat();
-        [single, of_requests, self.allowance.outcomes()].concat()
+        [single, of_requests, self.allowance.outcomes(), self.last_issues.outcomes()].concat()
     }
 }
 
@@ -64,7 +66,7 @@ impl Coverage {
 type Verdict = Result<bool, String>;
 type Property = fn(&mut Random, &mut Coverage) -> Verdict;
 
-const PROPERTIES: [(&str, Property); 43] = [
+const PROPERTIES: [(&str, Property); 47] = [
     ("a printed query is read back", queries_are_read_back),
     ("a printed database is read back", databases_are_read_back),
     ("a query's refusal names its first bad line", first_bad_line_of_a_query),
@@ -108,6 +110,10 @@ const PROPERTIES: [(&str, Property); 43] = [
     ("the product is the plan's number of lines, by the count of nodes, times the row limit", allowance::products),
     ("no run exceeds the product, and a budget of it is never spent", allowance::lines_run),
     ("the product is refused exactly where a run is before 17", allowance::refusals),
+    ("a last keeps of rows that agree in every other column the greatest, and so does its run", last_issues::kept),
+    ("a greater row replaces one that a last kept, a lesser one changes nothing", last_issues::replaced),
+    ("a last over an open node gets 5, over a node without its column 9", last_issues::put_anywhere),
+    ("every kind gets 12 at a last, and accepted steps elsewhere keep it and the rows", last_issues::steps),
 ];
 
 /// One test a property, each on the seeds from `seed` on.
@@ -249,7 +255,7 @@ fn values_off_the_form(random: &mut Random, coverage: &mut Coverage) -> Verdict 
     let (database, query, _) = input(random, 40)?;
     let mut bad = query.clone();
     let node = random.below(query.count as usize);
-    bad.nodes[node] = match random.below(8) {
+    bad.nodes[node] = match random.below(9) {
         0 => Node::Table(16),
         1 => Node::Var(16 + random.below(200) as u8),
         2 => Node::Fix(255),
@@ -257,6 +263,7 @@ fn values_off_the_form(random: &mut Random, coverage: &mut Coverage) -> Verdict 
         4 => Node::Filter(Condition::Same(0, 8)),
         5 => Node::Copy(0, 9),
         6 => Node::Mu(16 + random.below(200) as u8),
+        7 => Node::Last(8 + random.below(200) as u8),
         _ => Node::Drop(8),
     };
     // A later line off the form changes nothing.

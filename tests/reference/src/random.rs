@@ -231,6 +231,16 @@ impl Piece {
         self
     }
 
+    /// The piece is closed.
+    fn last(mut self, column: u8) -> Piece {
+        self.lines.push(Node::Last(column));
+        self
+    }
+
+    fn is_closed(&self) -> bool {
+        Term::of(&self.lines).is_ok_and(|term| term.closed())
+    }
+
     fn copy(mut self, from: u8, to: u8) -> Piece {
         self.lines.push(Node::Copy(from, to));
         self.columns.insert(to);
@@ -309,8 +319,27 @@ impl<'a> Maker<'a> {
         Piece::leaf(Node::Fact(column, self.random.cell(5)), Columns::from([column]))
     }
 
+    /// A table, now and then its last issues alone.
     fn table(&mut self, table: usize) -> Piece {
-        Piece::leaf(Node::Table(table as u8), self.schema[table].clone())
+        let piece = Piece::leaf(Node::Table(table as u8), self.schema[table].clone());
+        match self.random.pick(piece.columns.iter().copied()) {
+            Some(column) if self.random.once_in(12) => piece.last(column),
+            _ => piece,
+        }
+    }
+
+    /// The last issues of a closed piece by one of its columns, or by a further one that gives each row several.
+    fn last(&mut self, piece: Piece) -> Piece {
+        let column = self.random.pick(piece.columns.iter().copied());
+        match (column, self.absent(&piece.columns)) {
+            (_, Some(issue)) if self.random.once_in(3) => {
+                let first = self.fact(issue);
+                let issues = first.pair(Pairing::Union, self.fact(issue));
+                self.joined(piece, issues).last(issue)
+            }
+            (Some(column), _) => piece.last(column),
+            _ => piece,
+        }
     }
 
     fn leaf(&mut self) -> Piece {
@@ -334,11 +363,12 @@ impl<'a> Maker<'a> {
         })
     }
 
-    /// A filter, copy, rename or drop above a piece.
+    /// A filter, copy, rename or drop above a piece, above a closed one now and then a `last`.
     fn above(&mut self, piece: Piece) -> Piece {
         let column = self.random.pick(piece.columns.iter().copied());
         let absent = self.absent(&piece.columns);
-        match (self.random.below(5), column, absent) {
+        match (self.random.below(6), column, absent) {
+            (5, Some(column), _) if piece.is_closed() => piece.last(column),
             (0, Some(from), Some(to)) => piece.copy(from, to),
             (1, Some(from), Some(to)) => piece.copy(from, to).drop(from),
             (2, Some(column), _) => piece.drop(column),
@@ -372,6 +402,10 @@ impl<'a> Maker<'a> {
                 self.fact(column)
             }
             (4, _) => self.closed(4),
+            _ if self.random.once_in(6) => {
+                let piece = self.leaf();
+                self.last(piece)
+            }
             _ => self.closed(1),
         }
     }
@@ -382,6 +416,10 @@ impl<'a> Maker<'a> {
         }
         match self.random.below(10) {
             0 => self.leaf(),
+            1 if self.random.once_in(2) => {
+                let piece = self.closed(size - 1);
+                self.last(piece)
+            }
             1..=3 => {
                 let piece = self.closed(size - 1);
                 self.above(piece)
@@ -705,6 +743,8 @@ impl<'a> Maker<'a> {
     fn redex(&mut self, size: usize) -> Piece {
         let fix = self.fix(size);
         match self.random.below(7) {
+            // Kind 1 takes no `last` for a filter.
+            0 if self.random.once_in(4) => self.last(fix),
             0 => match self.condition(&fix.columns) {
                 Some(condition) => fix.filter(condition),
                 None => fix,
@@ -756,7 +796,7 @@ pub fn node(random: &mut Random) -> Node {
     let (a, b) = (random.below(COLUMNS) as u8, random.below(COLUMNS) as u8);
     let variable = random.below(usize::from(VARIABLES)) as u8;
     let value = if random.once_in(2) { random.next() } else { random.cell(5) };
-    match random.below(14) {
+    match random.below(15) {
         0 => Node::Table(random.below(TABLES as usize) as u8),
         1 => Node::Var(variable),
         2 => Node::Fix(variable),
@@ -770,14 +810,15 @@ pub fn node(random: &mut Random) -> Node {
         10 => Node::Filter(Condition::Same(a, b)),
         11 => Node::Copy(a, b),
         12 => Node::Mu(variable),
+        13 => Node::Last(a),
         _ => Node::Drop(a),
     }
 }
 
-/// The kinds that look at a line, each with the line's node.
+/// The kinds that look at a line, each with the line's node, and kind 1 at each `last`.
 pub fn likely(lines: &[Node]) -> Vec<(u32, u32)> {
     let kinds = |line: &Node| match line {
-        Node::Filter(_) => &[1][..],
+        Node::Filter(_) | Node::Last(_) => &[1][..],
         Node::Pair(Pairing::Join) => &[2, 3, 6],
         Node::Pair(Pairing::Except) => &[4],
         Node::Drop(_) => &[5],

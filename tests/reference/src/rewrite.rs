@@ -51,6 +51,7 @@ enum Rule<'a> {
     Merge { left: &'a Term, right: &'a Term },
 }
 
+/// No kind looks at a `last`.
 fn matched(term: &Term, kind: u32) -> Option<Rule<'_>> {
     let fix_at = |operand: usize| term.operands.get(operand).filter(|found| found.is_fix());
     match (kind, term.line) {

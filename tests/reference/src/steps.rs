@@ -76,6 +76,7 @@ fn print_line(checked: &Checked, line: &Line) -> String {
         Operation::Filter(Condition::Ne(c, w)) => format!("ne to={to} from={} column={c} value={w}", from()),
         Operation::Filter(Condition::Max(c, w)) => format!("max to={to} from={} column={c} value={w}", from()),
         Operation::Filter(Condition::Same(c, d)) => format!("same to={to} from={} column={c} other={d}", from()),
+        Operation::Last(c) => format!("last to={to} from={} column={c}", from()),
         Operation::Copy(a, b) => format!("copy to={to} from={} column={a} new={b}", from()),
         Operation::Drop(a) => format!("drop to={to} from={} column={a}", from()),
         Operation::Start { delta } => format!("start total={to} newest={delta} from={} path={}", from(), line.path),

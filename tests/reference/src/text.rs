@@ -90,6 +90,7 @@ pub fn read_node(line: &[u8]) -> Option<Node> {
         b"fix" => one(variable).map(Node::Fix),
         b"mu" => one(variable).map(Node::Mu),
         b"drop" => one(column).map(Node::Drop),
+        b"last" => one(column).map(Node::Last),
         b"fact" => two(u32::MAX).map(|(c, w)| Node::Fact(c, w)),
         b"eq" => two(u32::MAX).map(|(c, w)| Node::Filter(Condition::Eq(c, w))),
         b"ne" => two(u32::MAX).map(|(c, w)| Node::Filter(Condition::Ne(c, w))),
@@ -196,6 +197,7 @@ pub fn print_node(node: &Node) -> String {
         Node::Filter(Condition::Same(c, d)) => format!("same={c},{d}"),
         Node::Copy(a, b) => format!("copy={a},{b}"),
         Node::Drop(a) => format!("drop={a}"),
+        Node::Last(c) => format!("last={c}"),
         Node::Fix(v) => format!("fix={v}"),
         Node::Mu(v) => format!("mu={v}"),
     }

@@ -31,13 +31,15 @@ pub enum Node {
     Fix(u8),
     /// A recursion typed in one piece: its operand is the body.
     Mu(u8),
+    /// Of the rows that agree in every other column the one that holds the most there.
+    Last(u8),
 }
 
 impl Node {
     pub fn arity(&self) -> usize {
         match self {
             Node::Table(_) | Node::Var(_) | Node::Fact(..) => 0,
-            Node::Filter(_) | Node::Copy(..) | Node::Drop(_) | Node::Mu(_) => 1,
+            Node::Filter(_) | Node::Last(_) | Node::Copy(..) | Node::Drop(_) | Node::Mu(_) => 1,
             Node::Pair(_) | Node::Fix(_) => 2,
         }
     }
@@ -46,7 +48,7 @@ impl Node {
     pub fn names(&self) -> Columns {
         match *self {
             Node::Table(_) | Node::Var(_) | Node::Pair(_) | Node::Fix(_) | Node::Mu(_) => Columns::new(),
-            Node::Fact(c, _) | Node::Drop(c) => Columns::from([c]),
+            Node::Fact(c, _) | Node::Drop(c) | Node::Last(c) => Columns::from([c]),
             Node::Filter(condition) => condition.columns(),
             Node::Copy(a, b) => Columns::from([a, b]),
         }

@@ -24,7 +24,7 @@ const DUE: [(u32, &str, &str); 10] = [
 
 const NODE_LINES: &str =
     "table=T var=V fact=C,W pair=union pair=join pair=except eq=C,W ne=C,W max=C,W same=C,D copy=A,B drop=A \
-    fix=V mu=V";
+    fix=V mu=V last=C";
 
 /// The highest number that a capital stands for.
 fn most(capital: u8) -> &'static [u8] {
