@@ -70,6 +70,14 @@ module _ (G : Schema) where
       seen-numbers (s ++ visits G C v n a) D w m b ∙ ap (λ (l : List ℕ). l ++ fixNumbers b) (seen-numbers s C v n a)
       ∙ append-assoc (numbers s) (fixNumbers a) (fixNumbers b)
 
+  -- a line with one operand whose faults f don't ask which numbers are taken
+  first-last : (t a : Term) (f : ℕ → List Refusal) (s : List Visit) (C : Cols) (v : List ℕ) (n : ℕ) → ((taken : List ℕ) (m : ℕ) → scopeFaults t v taken m ≡ f m)
+      → walk firstAt s (visits G C v n a) ≡ firstPass a v (numbers s) (length s)
+      → walk firstAt s (visits G C v n a ++ (visit n t C v ∷ [])) ≡ firstPass a v (numbers s) (length s) ++ f (length s + (size a + 1))
+  first-last t a f s C v n h e =
+      let m : length (s ++ visits G C v n a) + 1 ≡ length s + (size a + 1) = omega (arith, seen-length s C v n a) in
+      walk-last firstAt s (visits G C v n a) (visit n t C v) e ∙ ap (λ (l : List Refusal). firstPass a v (numbers s) (length s) ++ l) (h _ _ ∙ ap f m)
+
   -- "First pass, lowest node first, then lowest number"
   pub first-walk : (t : Term) (s : List Visit) (C : Cols) (v : List ℕ) (n : ℕ)
       → walk firstAt s (visits G C v n t) ≡ firstPass t v (numbers s) (length s)
@@ -87,10 +95,7 @@ module _ (G : Schema) where
   first-walk (filter f a) s C v n = walk-last firstAt s (visits G C v n a) (visit n (filter f a) C v) (first-walk a s C v n) ∙ append-nil _
   first-walk (copy c d a) s C v n = walk-last firstAt s (visits G C v n a) (visit n (copy c d a) C v) (first-walk a s C v n) ∙ append-nil _
   first-walk (drop c a) s C v n = walk-last firstAt s (visits G C v n a) (visit n (drop c a) C v) (first-walk a s C v n) ∙ append-nil _
-  first-walk (last c a) s C v n =
-      let m : length (s ++ visits G C v n a) + 1 ≡ length s + (size a + 1) = omega (arith, seen-length s C v n a) in
-      walk-last firstAt s (visits G C v n a) (visit n (last c a) C v) (first-walk a s C v n)
-      ∙ ap (λ (m : ℕ). firstPass a v (numbers s) (length s) ++ scopeFaults (last c a) v [] m) m
+  first-walk (last c a) s C v n = first-last (last c a) a (scopeFaults (last c a) v []) s C v n (λ _ _. refl) (first-walk a s C v n)
   first-walk (fix u a b) s C v n =
       let k = visits G C v n a in
       let D = cols G C a in
@@ -100,10 +105,7 @@ module _ (G : Schema) where
       ∙ ap₂ (λ (taken : List ℕ) (m : ℕ). firstPass a v (numbers s) (length s)
       ++ (firstPass b (u ∷ v) (numbers s ++ fixNumbers a) (length s + size a) ++ scopeFaults (fix u a b) v taken m))
       (both-numbers s C v n a D (u ∷ v) (n + size a) b) (both-length s C v n a D (u ∷ v) (n + size a) b)
-  first-walk (mu u a) s C v n =
-      let m : length (s ++ visits G C v n a) + 1 ≡ length s + (size a + 1) = omega (arith, seen-length s C v n a) in
-      walk-last firstAt s (visits G C v n a) (visit n (mu u a) C v) (first-walk a s C v n)
-      ∙ ap (λ (k : ℕ). firstPass a v (numbers s) (length s) ++ scopeFaults (mu u a) v [] k) m
+  first-walk (mu u a) s C v n = first-last (mu u a) a (scopeFaults (mu u a) v []) s C v n (λ _ _. refl) (first-walk a s C v n)
 
   second-last : (t a : Term) (s : List Visit) (C : Cols) (v : List ℕ) (n : ℕ) → walk (secondAt G) s (visits G C v n a) ≡ secondPass G a C (length s)
       → walk (secondAt G) s (visits G C v n a ++ (visit n t C v ∷ [])) ≡ secondPass G a C (length s) ++ columnFaults G t C (length s + (size a + 1))
