@@ -29,6 +29,7 @@ use Rattle.query.proofs.Starts.{size-pos}
 use Rattle.query.proofs.Visits.{visits-length, visits-lines, last-at}
 use Rattle.rewrite.specs.Places.{last, Told, Stands}
 use Rattle.rewrite.specs.Rewrite.{around, replaced}
+use Rattle.rewrite.proofs.Around.{around-past}
 
 -- a part of a list, at its place
 record Part {A : Type 0} (whole part : List A) (n : ℕ) : Type 0 where
@@ -206,33 +207,6 @@ module _ (d : Database) (q : Query) (t : Term) (written : nodes q ≡ lines t) w
     unfolding visits lines
     mu-down {u} {a} h = one-down a (mu u a) refl (λ v. refl) h
 
-  -- around a term's own node, and past it, are the columns around the term
-  around-past : (a : Term) (C : Cols) (n : ℕ) → size a < n → around G C a n ≡ C
-  unfolding around size
-  around-past (table x) C n h = refl
-  around-past (var x) C n h = refl
-  around-past (fact c x) C n h = refl
-  around-past (pair o a b) C n h = rw (lt-leb n (size a) (omega arith)) (around-past b C (n - size a) (omega arith))
-  around-past (filter f a) C n h = around-past a C n (omega arith)
-  around-past (copy c x a) C n h = around-past a C n (omega arith)
-  around-past (drop c a) C n h = around-past a C n (omega arith)
-  around-past (latest c a) C n h = around-past a C n (omega arith)
-  around-past (fix v a b) C n h = rw (lt-leb n (size a) (omega arith), lt-leb n (size a + size b) (omega arith))
-  around-past (mu v a) C n h = around-past a C n (omega arith)
-
-  around-own : (a : Term) (C : Cols) (n : ℕ) → size a ≡ n → around G C a n ≡ C
-  unfolding around size
-  around-own (table x) C n h = refl
-  around-own (var x) C n h = refl
-  around-own (fact c x) C n h = refl
-  around-own (pair o a b) C n h = rw (lt-leb n (size a) (omega arith)) (around-past b C (n - size a) (omega arith))
-  around-own (filter f a) C n h = around-past a C n (omega arith)
-  around-own (copy c x a) C n h = around-past a C n (omega arith)
-  around-own (drop c a) C n h = around-past a C n (omega arith)
-  around-own (latest c a) C n h = around-past a C n (omega arith)
-  around-own (fix v a b) C n h = rw (lt-leb n (size a) (omega arith), lt-leb n (size a + size b) (omega arith))
-  around-own (mu v a) C n h = around-past a C n (omega arith)
-
   -- node n of a term whose lines follow m others
   pub record NodeOf (C : Cols) (m : ℕ) (a : Term) (n : ℕ) : Type 0 where
     pub term : Term
@@ -243,7 +217,7 @@ module _ (d : Database) (q : Query) (t : Term) (written : nodes q ≡ lines t) w
     pub ends : start + size term ≡ m + n
 
   own : (a : Term) (C : Cols) (m n : ℕ) → Here C m a → size a ≡ n → NodeOf C m a n
-  own a C m n h e = record { term = a; start = m; variable = C; here = h; is = around-own a C n e; ends = omega arith }
+  own a C m n h e = record { term = a; start = m; variable = C; here = h; is = around-past G C a n (omega arith); ends = omega arith }
 
   -- a node of an operand
   of-operand : (a b : Term) (C D : Cols) (m k n : ℕ) → around G C b n ≡ around G D a (n - k) → k ≤ n → NodeOf D (m + k) a (n - k) → NodeOf C m b n

@@ -91,7 +91,8 @@ module _ (w limit : ℕ) (q : Query) (d : Database) (store : List ℕ) (t : Term
       let b = around-narrow w limit q d store t over n in
       rule-sound node-closed narrow k _ m (x .matches) (stable-iff G _ b m redex-narrow .1 (x .stable)) (unused-iff G _ b m redex-narrow .1 (x .unused))
 
-  now : Replaced G t (R.replaced (lines t) n a (written m))
+  -- the rule's lines read again to one term
+  pub now : Replaced G t (R.replaced (lines t) n a (written m))
   now = replaced (lines t) t n a (written m) (ends .stack) (ends .within) reads (ends .reads) (swap-sound node-closed sound)
 
   -- the lines of the rule's sheet are on the form
@@ -119,7 +120,7 @@ module _ (w limit : ℕ) (q : Query) (d : Database) (store : List ℕ) (t : Term
         well-formed = swap-wellformed (now .swap) (checkedNow .well-formed);
       })
 
-  step-checked : CheckedSplit limit p G (now .term)
+  pub step-checked : CheckedSplit limit p G (now .term)
   step-checked = subst (λ (r : Query). CheckedSplit limit r G (now .term)) (sym (x .hands)) sheet-checked
 
   -- and within the limit

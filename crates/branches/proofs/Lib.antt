@@ -1,0 +1,7 @@
+pub mod Beside
+pub mod SetsCommute
+pub mod Stretches
+pub mod BranchSteps
+pub mod StepsCommute
+pub mod BranchesKept
+pub mod Interleavings
