@@ -184,7 +184,7 @@ def contract(lines):
 
 BLOCK = r"```\n((?:(?!```).*\n)*)```\n"
 EXAMPLE = re.compile(
-    rf"Case `([\w-]+)`(?:, with the step `([^`\n]*)`)?(?:, Reach |:\n\n{BLOCK}\n)(?:over the book:?\n\n{BLOCK}\n|over an (empty) book )?prints\n\n{BLOCK}"
+    rf"Case `([\w-]+)`(?:, with the steps? (`[^`\n]*`(?: and `[^`\n]*`)*))?(?:, Reach |:\n\n{BLOCK}\n)(?:over the book:?\n\n{BLOCK}\n|over an (empty) book )?prints\n\n{BLOCK}"
 )
 PATH_EXAMPLE = re.compile(
     rf"Path case `([\w-]+)`: the path `([^`\n]*)` (?:over the book\n\n{BLOCK}\n|over an (empty) book )?prints\n\n{BLOCK}"
@@ -230,10 +230,10 @@ def sheet_parts(text, sentences):
     A sheet or a book that isn't shown is that of the case reach, unless the page says that the book is empty; a step that isn't named isn't there.
     """
     parts = [(name, "expected.txt", printed + "\n") for name, printed in PRINTS.findall(sentences)]
-    for name, step, sheet, book, empty, printed in EXAMPLE.findall(text):
+    for name, steps, sheet, book, empty, printed in EXAMPLE.findall(text):
         parts.append((name, "sheet.txt", sheet or case_text("reach", "sheet.txt")))
         parts.append((name, "book.txt", "" if empty else book or case_text("reach", "book.txt")))
-        parts.append((name, "steps.txt", step and step + "\n"))
+        parts.append((name, "steps.txt", "".join(step + "\n" for step in re.findall(r"`([^`]*)`", steps))))
         parts.append((name, "expected.txt", printed))
     return parts
 

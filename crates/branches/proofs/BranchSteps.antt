@@ -95,14 +95,14 @@ module _ (w limit : ℕ) (d : Database) (store : List ℕ) where
   G = schema w d
 
   -- what the rule of kind k finds and writes, C being the columns around the node
-  abbrev pub made : ℕ → Cols → Option Term → Reply Writes
-  made k C o = orRefuse o NoMatch >>= λ a. rule G C k a >>= λ b. accepted (a, b)
+  abbrev pub applied : ℕ → Cols → Option Term → Reply Writes
+  applied k C o = orRefuse o NoMatch >>= λ a. rule G C k a >>= λ b. accepted (a, b)
 
   -- a step on a checked sheet, by the term at its node and the columns around
-  pub step-made : (q : Query) (t : Term) → checkOver w limit q d store ≡ accepted t → (k n : ℕ)
-      → rewrite w limit q d store k n ≡ made k (around G noCols t n) (endedAt (lines t) n) >>= hand q (lines t) n
+  pub step-applied : (q : Query) (t : Term) → checkOver w limit q d store ≡ accepted t → (k n : ℕ)
+      → rewrite w limit q d store k n ≡ applied k (around G noCols t n) (endedAt (lines t) n) >>= hand q (lines t) n
   unfolding rewrite
-  step-made q t over k n = rw over (by-node (endedAt (lines t) n))
+  step-applied q t over k n = rw over (by-node (endedAt (lines t) n))
     where
       by-rule : (a : Term) (r : Reply Term)
           → r >>= (λ b. accepted (withNodes q (replaced (lines t) n a b))) ≡ (r >>= λ b. accepted (a, b)) >>= hand q (lines t) n
@@ -111,17 +111,17 @@ module _ (w limit : ℕ) (d : Database) (store : List ℕ) where
 
       by-node : (o : Option Term)
           → orRefuse o NoMatch >>= (λ a. rule G (around G noCols t n) k a >>= (λ b. accepted (withNodes q (replaced (lines t) n a b))))
-          ≡ made k (around G noCols t n) o >>= hand q (lines t) n
+          ≡ applied k (around G noCols t n) o >>= hand q (lines t) n
       by-node none = refl
       by-node (some a) = by-rule a (rule G (around G noCols t n) k a)
 
-  record Made (k : ℕ) (C : Cols) (o : Option Term) (a b : Term) : Type 0 where
+  record RuleApplied (k : ℕ) (C : Cols) (o : Option Term) (a b : Term) : Type 0 where
     at : o ≡ some a
     rules : rule G C k a ≡ accepted b
 
-  made-parts : (k : ℕ) (C : Cols) (o : Option Term) (a b : Term) → made k C o ≡ accepted (a, b) → Made k C o a b
-  made-parts k C none a b e = accepted-refused (sym e)
-  made-parts k C (some x) a b e =
+  applied-parts : (k : ℕ) (C : Cols) (o : Option Term) (a b : Term) → applied k C o ≡ accepted (a, b) → RuleApplied k C o a b
+  applied-parts k C none a b e = accepted-refused (sym e)
+  applied-parts k C (some x) a b e =
       let (y, f, g) = accepted-then (rule G C k x) (λ b. accepted (x, b)) e in
       let i : x ≡ a = ap (λ (p : Writes). p .0) (accepted-same g) in
       let j : y ≡ b = ap (λ (p : Writes). p .1) (accepted-same g) in
@@ -130,7 +130,7 @@ module _ (w limit : ℕ) (d : Database) (store : List ℕ) where
   module _ (q : Query) (t : Term) (over : checkOver w limit q d store ≡ accepted t) where
     -- what the step of kind k at node n finds and writes
     abbrev pub core : ℕ → ℕ → Reply Writes
-    core k n = made k (around G noCols t n) (endedAt (lines t) n)
+    core k n = applied k (around G noCols t n) (endedAt (lines t) n)
 
     -- all that is used of an accepted step: what it writes is as large as what it finds and has its columns, and the sheet is checked with it in place
     pub record Leaves (n : ℕ) (a b : Term) : Type 0 where
@@ -153,7 +153,7 @@ module _ (w limit : ℕ) (d : Database) (store : List ℕ) where
 
     pub leaves : (k n : ℕ) (a b : Term) → core k n ≡ accepted (a, b) → Leaves n a b
     leaves k n a b e =
-        let m = made-parts k (around G noCols t n) (endedAt (lines t) n) a b e in
+        let m = applied-parts k (around G noCols t n) (endedAt (lines t) n) a b e in
         let why : RuleReply G (around G noCols t n) k a (accepted b) =
         subst (RuleReply G (around G noCols t n) k a) (m .rules)
         (rule-exact G (around G noCols t n) k a (around-narrow w limit q d store t over n) (part-narrow w limit q d store t over n a (m .at))) in
@@ -181,24 +181,24 @@ module _ (w limit : ℕ) (d : Database) (store : List ℕ) where
       other-ended = same-ended (l .here) b (l .same-size) n′ (λ a′ e′. clear-nodes n n′ a a′ (inside-found (l .here)) e′ x)
 
       -- and so do the columns around it: the other step finds and writes the same
-      same-made : (k′ : ℕ) (o : Option Term) → endedAt (lines t) n′ ≡ o → made k′ (around G noCols (puts (l .here) b) n′) o ≡ made k′ (around G noCols t n′) o
-      same-made k′ none e = refl
-      same-made k′ (some a′) e =
+      same-applied : (k′ : ℕ) (o : Option Term) → endedAt (lines t) n′ ≡ o → applied k′ (around G noCols (puts (l .here) b) n′) o ≡ applied k′ (around G noCols t n′) o
+      same-applied k′ none e = refl
+      same-applied k′ (some a′) e =
           let low = own-lines (found-inside t n′ a′ e) in
           let clear : Clear n (size a) n′ 1 = elim (clear-nodes n n′ a a′ (inside-found (l .here)) e x) [
             | first c ↦ first (omega (arith, size-positive a′))
             | last c ↦ last c
           ] in
-          ap (λ (C : Cols). made k′ C (some a′))
+          ap (λ (C : Cols). applied k′ C (some a′))
           (around-beside G b (l .same-columns) (l .same-size) (l .here) noCols n′ (omega (arith, size-positive a′)) clear)
 
       after : (k′ : ℕ) → rewrite w limit (withNodes q (replaced (lines t) n a b)) d store k′ n′
           ≡ core k′ n′ >>= hand (withNodes q (replaced (lines t) n a b)) (replaced (lines t) n a b) n′
       after k′ =
-          step-made (withNodes q (replaced (lines t) n a b)) (puts (l .here) b) (l .checked) k′ n′
-          ∙ ap₂ (λ (o : Option Term) (ns : List Node). made k′ (around G noCols (puts (l .here) b) n′) o >>= hand (withNodes q (replaced (lines t) n a b)) ns n′)
+          step-applied (withNodes q (replaced (lines t) n a b)) (puts (l .here) b) (l .checked) k′ n′
+          ∙ ap₂ (λ (o : Option Term) (ns : List Node). applied k′ (around G noCols (puts (l .here) b) n′) o >>= hand (withNodes q (replaced (lines t) n a b)) ns n′)
           other-ended (puts-lines (l .here) b)
-          ∙ ap (λ (c : Reply Writes). c >>= hand (withNodes q (replaced (lines t) n a b)) (replaced (lines t) n a b) n′) (same-made k′ (endedAt (lines t) n′) refl)
+          ∙ ap (λ (c : Reply Writes). c >>= hand (withNodes q (replaced (lines t) n a b)) (replaced (lines t) n a b) n′) (same-applied k′ (endedAt (lines t) n′) refl)
 
     -- after a step, accepted or not, the other finds and writes the same
     after-any : (k n k′ n′ : ℕ) → Apart q n n′
@@ -208,7 +208,7 @@ module _ (w limit : ℕ) (d : Database) (store : List ℕ) where
       where
         by-core : (c : Reply Writes) → core k n ≡ c
             → rewrite w limit (sheetAfter q (lines t) n c) d store k′ n′ ≡ core k′ n′ >>= hand (sheetAfter q (lines t) n c) (linesAfter (lines t) n c) n′
-        by-core (refused r) e = step-made q t over k′ n′
+        by-core (refused r) e = step-applied q t over k′ n′
         by-core (accepted (a, b)) e = after n a b (leaves k n a b e) n′ x k′
 
     -- a step's node and lines are among the sheet's
@@ -266,8 +266,8 @@ module _ (w limit : ℕ) (d : Database) (store : List ℕ) where
     pub checked-commute : (k n k′ n′ : ℕ) → Apart q n n′ → Commute w limit q d store k n k′ n′
     checked-commute k n k′ n′ x =
         let ns = lines t in
-        let s = step-made q t over k n in
-        let s′ = step-made q t over k′ n′ in
+        let s = step-applied q t over k n in
+        let s′ = step-applied q t over k′ n′ in
         let l : stepped w limit q d store k n ≡ sheetAfter q ns n (core k n) = ap (handedBack q) s in
         let l′ : stepped w limit q d store k′ n′ ≡ sheetAfter q ns n′ (core k′ n′) = ap (handedBack q) s′ in
         let f = ap (λ (p : Query). rewrite w limit p d store k′ n′) l ∙ after-any k n k′ n′ x in

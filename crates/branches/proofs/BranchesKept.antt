@@ -18,7 +18,7 @@ use Rattle.rewrite.specs.Rewrite.{endedAt, replaced, withNodes, handedBack}
 use Rattle.rewrite.proofs.Inside.{Ended, found-ended, ended-found, Inside, puts, puts-lines, puts-size, inside-found, ended-over}
 use Rattle.branches.specs.Branches.{splitLines, Stretch, Apart, stepped}
 use Rattle.branches.proofs.Stretches.{index, index-place, stretch-inside, apart-under}
-use Rattle.branches.proofs.BranchSteps.{split-lines, Writes, core, hand, step-made, Leaves, leaves, other-ended}
+use Rattle.branches.proofs.BranchSteps.{split-lines, Writes, core, hand, step-applied, Leaves, leaves, other-ended}
 use Rattle.branches.proofs.StepsCommute.{unchecked-stays}
 
 -- the stretch of m is the same in both
@@ -89,4 +89,4 @@ module _ (w limit : ℕ) (d : Database) (store : List ℕ) (q : Query) (m n : �
       by-check : (c : Reply Term) → checkOver w limit q d store ≡ c → BranchesKept (stepped w limit q d store k n)
       by-check (refused r) e = subst BranchesKept (sym (unchecked-stays w limit q d store r e k n)) stayed
       by-check (accepted t) e =
-          subst BranchesKept (ap (handedBack q) (sym (step-made w limit d store q t e k n))) (by-core t e (core w limit d store q t e k n) refl)
+          subst BranchesKept (ap (handedBack q) (sym (step-applied w limit d store q t e k n))) (by-core t e (core w limit d store q t e k n) refl)

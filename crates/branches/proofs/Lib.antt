@@ -4,4 +4,5 @@ pub mod Stretches
 pub mod BranchSteps
 pub mod StepsCommute
 pub mod BranchesKept
+pub mod Sides
 pub mod Interleavings

@@ -24,11 +24,11 @@ module _ (q : Query) where
   pub apart-clear : (m n : ℕ) (a b : Term) → endedAt (splitLines q) m ≡ some a → endedAt (splitLines q) n ≡ some b → Apart q m n → Clear m (size a) n (size b)
   apart-clear m n a b e f x = elim (decLt m n) [
     | yes h ↦ elim (decLt n (m + size b)) [
-      | yes i ↦ absurd (x .not-under (record { other = x .different; among = record { node = b; ends = f; from = i; to = omega arith } }))
+      | yes i ↦ absurd (x .not-under (record { other = x .different; among = record { node = b; ends = f; from = omega arith; to = omega arith } }))
       | no i ↦ first (omega arith)
     ]
     | no h ↦ elim (decLt m (n + size a)) [
-      | yes i ↦ absurd (x .not-over (record { other = λ g. x .different (sym g); among = record { node = a; ends = e; from = i; to = omega arith } }))
+      | yes i ↦ absurd (x .not-over (record { other = λ g. x .different (sym g); among = record { node = a; ends = e; from = omega arith; to = omega arith } }))
       | no i ↦ last (omega arith)
     ]
   ]

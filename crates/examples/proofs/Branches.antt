@@ -1,0 +1,92 @@
+-- The examples of two editors hold: the hypotheses of `steps-commute` can be met, and without them it fails.
+use mathlib.Core.Path.{_≡_, refl, ap, sym, _∙_}
+use mathlib.Core.Option.{some}
+use mathlib.Core.List.{List, [], _∷_, _++_, map}
+use Prim.Native.Nat.{ℕ}
+use native.Mathlib.Omega.{arith}
+use Rattle.laws.specs.Lists.{every, any, sift, all, lowest, tabulate}
+use Rattle.laws.proofs.Options.{some-inj}
+use Rattle.algebra.specs.declared.Pairing.the-variants.{Join}
+use Rattle.algebra.specs.declared.Condition.the-variants.{Eq}
+use Rattle.algebra.specs.Term.{Term}
+use Rattle.algebra.specs.Term as T
+use Rattle.algebra.specs.Columns.{with, without, both, pairCols, cols, free, size, fixes, fixNumbers, pairOrigin, origin, used}
+use Rattle.algebra.specs.Split.{branches, unitedFrom, split}
+use Rattle.algebra.specs.Rules.{loopOf, over, overBoth, pairMatch, match, sharedStable, othersUnused, stableEnough, unusedEnough, closedEnough, rename, written}
+use Rattle.relation.specs.Rows.{columns, ordered, ascend, rowsOf, entries}
+use Rattle.database.specs.Stored.{tableStart, tableOk, checkDatabase}
+use Rattle.database.proofs.Verdicts.{accepted-not-refused}
+use Rattle.query.specs.declared.Node.the-variants.{Filter}
+use Rattle.query.specs.declared.Query.{Query}
+use Rattle.query.specs.Lines.{nodeLimit, checkForm, lines, push, read, termOf}
+use Rattle.query.specs.Check.{splitFaults, splitTerm, unless, firstPass, secondPass, faults, checkQuery, checkOver}
+use Rattle.text.specs.Lines.{filled}
+use Rattle.text.specs.Texts.{queryValue}
+use Rattle.rewrite.specs.Rewrite.{around, rule, endedAt, rewrite}
+use Rattle.branches.specs.Branches.{splitLines, Under, Apart, Commute}
+use Rattle.branches.proofs.StepsCommute.{steps-commute}
+use Rattle.examples.specs.Branches.{book, store, Turns, orders, turns, nested, halves, filters}
+
+pub turns-hold : map orders turns ≡ map (λ (x : Turns). x .expected) turns
+unfolding every any sift all lowest tabulate with without both pairCols cols free size fixes fixNumbers pairOrigin origin used branches unitedFrom split loopOf over overBoth pairMatch match sharedStable othersUnused stableEnough unusedEnough closedEnough rename written ordered ascend rowsOf entries tableStart tableOk checkDatabase checkForm lines push read termOf splitFaults splitTerm unless firstPass secondPass faults checkQuery checkOver filled around rule endedAt rewrite mathlib.Core.List.flatMap
+turns-hold = refl
+
+pub nested-hold : map orders nested ≡ map (λ (x : Turns). x .expected) nested
+unfolding every any sift all lowest tabulate with without both pairCols cols free size fixes fixNumbers pairOrigin origin used branches unitedFrom split loopOf over overBoth pairMatch match sharedStable othersUnused stableEnough unusedEnough closedEnough rename written ordered ascend rowsOf entries tableStart tableOk checkDatabase checkForm lines push read termOf splitFaults splitTerm unless firstPass secondPass faults checkQuery checkOver filled around rule endedAt rewrite mathlib.Core.List.flatMap
+nested-hold = refl
+
+-- a filter over each half
+abbrev query : Query
+query = queryValue (halves (Filter (Eq 0 1)) (Filter (Eq 0 1)))
+
+-- the right half
+abbrev right : Term
+right =
+    T.filter (Eq 0 1) (T.fix 2 (T.table 1) (T.drop 2 (T.pair Join (T.drop 3 (T.copy 3 2 (T.var 2))) (T.drop 0 (T.copy 0 2 (T.table 1))))))
+
+right-ends : endedAt (splitLines query) 22 ≡ some right
+unfolding every any size free branches unitedFrom split lines push read termOf splitFaults splitTerm unless endedAt mathlib.Core.List.flatMap
+right-ends = refl
+
+right-size : size right ≡ 11
+unfolding size
+right-size = refl
+
+pub halves-apart : Apart query 11 22
+halves-apart = record {
+  different = λ e. absurd (omega arith);
+  not-under = λ u.
+      let i : size (u .among .node) ≡ 11 = ap size (some-inj (sym (u .among .ends) ∙ right-ends)) ∙ right-size in
+      let h = u .among .from in
+      omega arith;
+  not-over = λ u. let h = u .among .to in omega arith;
+}
+
+pub halves-commute : Commute columns nodeLimit query book store 1 11 1 22
+halves-commute = steps-commute columns nodeLimit query book store 1 11 1 22 (omega arith) (omega arith) halves-apart
+
+-- one filter over the other
+abbrev twoFilters : Query
+twoFilters = queryValue filters
+
+abbrev upper : Term
+upper =
+    T.filter (Eq 0 2) (T.filter (Eq 0 1) (T.fix 1 (T.table 0) (T.drop 2 (T.pair Join (T.drop 1 (T.copy 1 2 (T.var 1))) (T.drop 0 (T.copy 0 2 (T.table 0)))))))
+
+upper-ends : endedAt (splitLines twoFilters) 12 ≡ some upper
+unfolding every any size free branches unitedFrom split lines push read termOf splitFaults splitTerm unless endedAt mathlib.Core.List.flatMap
+upper-ends = refl
+
+upper-size : size upper ≡ 12
+unfolding size
+upper-size = refl
+
+pub filters-under : Under twoFilters 11 12
+filters-under = record {
+  other = λ e. absurd (omega arith);
+  among = record { node = upper; ends = upper-ends; from = omega (arith, upper-size); to = omega arith };
+}
+
+pub filters-fail : Commute columns nodeLimit twoFilters book store 1 11 1 12 → ⊥
+unfolding every any sift all lowest tabulate with without both pairCols cols free size fixes fixNumbers pairOrigin origin used branches unitedFrom split loopOf over overBoth pairMatch match sharedStable othersUnused stableEnough unusedEnough closedEnough rename written ordered ascend rowsOf entries tableStart tableOk checkDatabase checkForm lines push read termOf splitFaults splitTerm unless firstPass secondPass faults checkQuery checkOver filled around rule endedAt rewrite mathlib.Core.List.flatMap
+filters-fail c = accepted-not-refused (c .second-after)
