@@ -1,12 +1,12 @@
 -- Two nodes that have no line in common: a term of the same size and columns put in the place of one leaves the other where it is, with the same columns around.
 use mathlib.Core.Path.{_≡_, refl, ap, sym, _∙_}
 use mathlib.Core.Option.{Option, some, none}
-use mathlib.Core.List.{List, [], _∷_, _++_, append-assoc}
-use Prim.Native.Nat.{ℕ, _+_, _-_, _≤_, _<_}
+use mathlib.Core.List.{List, [], _++_, append-assoc}
+use Prim.Native.Nat.{ℕ, _+_, _-_, _≤_}
 use native.Mathlib.Omega.{arith}
 use native.Mathlib.Decide.{decLe}
 use lib.Dec.{leb}
-use lib.ListN.{length, take, drop as dropFirst, length-append, length-drop}
+use lib.ListN.{length, drop as dropFirst, length-append, length-drop}
 use lib.Seq.{drop-at, take-append-le, drop-append-le}
 use borrow.Author.Tests.{le-leb, lt-leb}
 use Rattle.laws.specs.Lists.{if_then_else_}
@@ -14,7 +14,6 @@ use Rattle.laws.proofs.Options.{none-some}
 use Rattle.algebra.specs.Term.{Term}
 use Rattle.algebra.specs.Columns.{Cols, Schema, with, without, pairCols, cols, size}
 use Rattle.algebra.proofs.Sizes.{size-positive}
-use Rattle.database.specs.Refusals.{accepted}
 use Rattle.database.proofs.Replies.{accepted-then}
 use Rattle.query.specs.declared.Node.{Node}
 use Rattle.query.specs.Lines.{lines, read}

@@ -2,7 +2,7 @@
 -- again. So a step at a node that has no line in common with it finds the same term and the same columns around, and replies and writes what it did.
 use mathlib.Core.Path.{_≡_, refl, ap, ap₂, sym, _∙_, subst}
 use mathlib.Core.Option.{Option, some, none}
-use mathlib.Core.List.{List, [], _++_, append-assoc}
+use mathlib.Core.List.{List, _++_, append-assoc}
 use Prim.Native.Nat.{ℕ, _+_, _-_, _≤_}
 use native.Mathlib.Omega.{arith}
 use lib.ListN.{length, take, drop as dropFirst}
@@ -13,7 +13,6 @@ use Rattle.algebra.proofs.Sizes.{size-positive}
 use Rattle.algebra.proofs.Redex.{matched}
 use Rattle.algebra.proofs.Written.{written-columns}
 use Rattle.database.specs.declared.Database.{Database}
-use Rattle.database.specs.declared.Verdict.{Verdict}
 use Rattle.database.specs.declared.Refusal.the-variants.{NoMatch}
 use Rattle.database.specs.Stored.{schema, checkDatabase}
 use Rattle.database.specs.Refusals.{Reply, refused, accepted, noFault, orRefuse, verdict, _>>=_}
@@ -33,7 +32,7 @@ use Rattle.rewrite.proofs.RuleExact.{RuleReply, allowed, rule-exact}
 use Rattle.rewrite.proofs.RewriteExact.{Accepted}
 use Rattle.rewrite.proofs.Held.{now, step-checked}
 use Rattle.rewrite.proofs.SplitSheet.{rule-size}
-use Rattle.rewrite.proofs.Inside.{Ended, ended-length, found-ended, Inside, puts, own-lines, within-lines, puts-lines, inside-found, found-inside}
+use Rattle.rewrite.proofs.Inside.{Inside, puts, own-lines, within-lines, puts-lines, inside-found, found-inside}
 use Rattle.branches.specs.Branches.{splitLines, Apart, stepped, Commute}
 use Rattle.branches.proofs.Beside.{Clear, first, last, same-ended, around-beside}
 use Rattle.branches.proofs.SetsCommute.{sets-commute}

@@ -3,7 +3,7 @@ use mathlib.Core.Path.{_≡_, refl, ap, sym, _∙_, subst}
 use mathlib.Core.Logic.{_↔_}
 use mathlib.Core.Option.{some}
 use mathlib.Core.List.{List}
-use Prim.Native.Nat.{ℕ, _+_, _-_, _≤_, _<_}
+use Prim.Native.Nat.{ℕ, _-_}
 use native.Mathlib.Omega.{arith}
 use Rattle.laws.proofs.Options.{some-inj}
 use Rattle.algebra.specs.Term.{Term}
@@ -15,7 +15,7 @@ use Rattle.query.specs.declared.Query.{Query}
 use Rattle.query.specs.Lines.{lines}
 use Rattle.query.specs.Check.{checkOver}
 use Rattle.rewrite.specs.Rewrite.{endedAt, replaced, withNodes, handedBack}
-use Rattle.rewrite.proofs.Inside.{Ended, found-ended, ended-found, Inside, puts, puts-lines, puts-size, inside-found, ended-over}
+use Rattle.rewrite.proofs.Inside.{found-ended, ended-found, Inside, puts, puts-lines, puts-size, inside-found, ended-over}
 use Rattle.branches.specs.Branches.{splitLines, Stretch, Apart, stepped}
 use Rattle.branches.proofs.Stretches.{index, index-place, stretch-inside, apart-under}
 use Rattle.branches.proofs.BranchSteps.{split-lines, Writes, core, hand, step-applied, Leaves, leaves, other-ended}

@@ -8,7 +8,7 @@ use Rattle.database.specs.declared.Database.{Database}
 use Rattle.database.specs.declared.Verdict.{Verdict}
 use Rattle.query.specs.declared.Query.{Query}
 use Rattle.rewrite.specs.Rewrite.{held}
-use Rattle.branches.specs.Branches.{Stretch, Apart, stepped, Commute, Steps, OnBranch, made, Interleaved, nothing, from-first, from-second, told}
+use Rattle.branches.specs.Branches.{Apart, stepped, Commute, Steps, OnBranch, made, Interleaved, nothing, from-first, from-second, told}
 use Rattle.branches.proofs.Stretches.{apart-sym, apart-under}
 use Rattle.branches.proofs.StepsCommute.{steps-commute}
 use Rattle.branches.proofs.BranchesKept.{SameStretch, branches-kept}

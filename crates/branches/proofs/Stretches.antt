@@ -2,8 +2,7 @@
 use mathlib.Core.Path.{_≡_, sym, _∙_, subst}
 use mathlib.Core.Logic.{_↔_, _≢_}
 use mathlib.Core.Option.{some}
-use mathlib.Core.List.{List}
-use Prim.Native.Nat.{ℕ, _+_, _-_, _≤_, _<_}
+use Prim.Native.Nat.{ℕ, _+_, _-_}
 use native.Mathlib.Omega.{arith}
 use native.Mathlib.Decide.{decLt}
 use Rattle.laws.proofs.Options.{some-inj}
@@ -13,7 +12,7 @@ use Rattle.algebra.proofs.Sizes.{size-positive}
 use Rattle.query.specs.declared.Query.{Query}
 use Rattle.rewrite.specs.Rewrite.{endedAt}
 use Rattle.rewrite.proofs.Inside.{found-ended, ended-found, Inside, own-lines, Found, node-inside, ended-under}
-use Rattle.branches.specs.Branches.{splitLines, Stretch, Under, Apart}
+use Rattle.branches.specs.Branches.{splitLines, Stretch, Apart}
 use Rattle.branches.proofs.Beside.{Clear, first, last}
 
 pub apart-sym : {q : Query} {m n : ℕ} → Apart q m n → Apart q n m

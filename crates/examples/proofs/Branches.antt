@@ -1,8 +1,7 @@
 -- The examples of two editors hold: the hypotheses of `steps-commute` can be met, and without them it fails.
 use mathlib.Core.Path.{_≡_, refl, ap, sym, _∙_}
 use mathlib.Core.Option.{some}
-use mathlib.Core.List.{List, [], _∷_, _++_, map}
-use Prim.Native.Nat.{ℕ}
+use mathlib.Core.List.{List, map}
 use native.Mathlib.Omega.{arith}
 use Rattle.laws.specs.Lists.{every, any, sift, all, lowest, tabulate}
 use Rattle.laws.proofs.Options.{some-inj}

@@ -7,7 +7,7 @@ use Rattle.relation.specs.Rows.{columns}
 use Rattle.database.specs.declared.Database.{Database}
 use Rattle.database.specs.Refusals.{Reply, refused, accepted, number, placeOf}
 use Rattle.query.specs.declared.Node.{Node}
-use Rattle.query.specs.declared.Node.the-variants.{Table, Var, Pair, Filter, Copy, Drop, Fix, Mu}
+use Rattle.query.specs.declared.Node.the-variants.{Table, Pair, Filter, Fix, Mu}
 use Rattle.query.specs.declared.Query.{Query}
 use Rattle.query.specs.Lines.{nodes, nodeLimit}
 use Rattle.text.specs.Texts.{queryValue, databaseValue, tableEntries}

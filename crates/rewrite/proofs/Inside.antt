@@ -21,7 +21,7 @@ use Rattle.query.specs.declared.Node.the-variants.{Pair, Filter, Copy, Drop, La
 use Rattle.query.specs.Lines.{lines, read}
 use Rattle.query.proofs.Reading.{size-lines, read-lines, read-flat, flat}
 use Rattle.query.proofs.Prefix.{node-lines}
-use Rattle.rewrite.specs.Rewrite.{top, endedAt, replaced}
+use Rattle.rewrite.specs.Rewrite.{endedAt, replaced}
 use Rattle.rewrite.proofs.NodeParts.{ends-at}
 
 -- the lines of a stack on top of another
