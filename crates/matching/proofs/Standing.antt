@@ -5,8 +5,7 @@ use Prim.Native.Nat.{ℕ, _+_, _-_, _≤_, _<_}
 use native.Mathlib.Omega.{arith}
 use native.Mathlib.Decide.{decLt}
 use borrow.Author.Tests.{le-leb, lt-leb}
-use lib.ListN.{length, getD, take, drop as dropFirst, length-append, length-map, List·getD-append}
-use lib.Seq.{take-at, drop-at}
+use lib.ListN.{length, getD, take, length-append, length-map, List·getD-append}
 use Rattle.laws.proofs.EachMember.{getD-map}
 use Rattle.algebra.specs.declared.Pairing.{Pairing}
 use Rattle.algebra.specs.declared.Condition.{Condition}
@@ -24,12 +23,13 @@ use Rattle.query.specs.Lines.{nodes, lines, read}
 use Rattle.query.specs.Facts.{Visit, visits, padded, factsOf, variablesOf}
 use Rattle.query.specs.Passes.{visit, noVisit}
 use Rattle.query.specs.Shape.{root}
-use Rattle.query.proofs.Reading.{flat, read-flat, read-lines, size-lines}
+use Rattle.query.proofs.Reading.{flat, size-lines}
 use Rattle.query.proofs.Starts.{size-pos}
 use Rattle.query.proofs.Visits.{visits-length, visits-lines, last-at}
 use Rattle.rewrite.specs.Places.{last, Told, Stands}
 use Rattle.rewrite.specs.Rewrite.{around, replaced}
 use Rattle.rewrite.proofs.Around.{around-past}
+use Rattle.rewrite.proofs.Inside.{Ended, ended-reads, ended-replaced}
 
 -- a part of a list, at its place
 record Part {A : Type 0} (whole part : List A) (n : ℕ) : Type 0 where
@@ -281,21 +281,17 @@ module _ (d : Database) (q : Query) (t : Term) (written : nodes q ≡ lines t) w
     stacked = record { stack = []; rest = []; splits = written ∙ sym (append-nil (lines t)); place = refl };
   }
 
-  -- the lines up to the node's own leave it on the stack
   module _ {C : Cols} {n : ℕ} {a : Term} (h : Here C n a) (k : ℕ) (e : n + size a ≡ k) where
     pub under : List Term
     under = h .stacked .stack
 
+    ended : Ended (nodes q) k a
+    ended = let s = h .stacked in record { stack = s .stack; rest = s .rest; whole = s .splits; ends = ap (λ (i : ℕ). i + size a) (s .place) ∙ e }
+
+    -- the lines up to the node's own leave it on the stack
     pub here-reads : read 0 (take k (nodes q)) [] ≡ accepted (a ∷ under)
-    unfolding read under
-    here-reads =
-        let s = h .stacked in
-        let p = flat (s .stack) ++ lines a in
-        let long : length p ≡ k = length-append (flat (s .stack)) (lines a) ∙ ap₂ _+_ (s .place) (size-lines a) ∙ e in
-        ap (λ (l : List Node). read 0 l [])
-        (ap (take k) (s .splits ∙ sym (append-assoc (flat (s .stack)) (lines a) (s .rest))) ∙ take-at p (s .rest) k long)
-        ∙ read-flat (s .stack) (lines a) ∙ ap (λ (l : List Node). read (length (flat (s .stack))) l (s .stack)) (sym (append-nil (lines a)))
-        ∙ read-lines a (length (flat (s .stack))) [] (s .stack)
+    unfolding under ended
+    here-reads = ended-reads ended
 
     -- the query's lines around the node's
     pub after : List Node
@@ -311,9 +307,5 @@ module _ (d : Database) (q : Query) (t : Term) (written : nodes q ≡ lines t) w
 
     -- other lines in their place
     pub here-replaced : (b : Term) → replaced (nodes q) k a b ≡ flat under ++ (lines b ++ after)
-    here-replaced b =
-        let p = flat under ++ lines a in
-        let long : length p ≡ k = length-append (flat under) (lines a) ∙ ap₂ _+_ here-place (size-lines a) ∙ e in
-        let m : length (flat under) ≡ k - size a = here-place ∙ omega arith in
-        ap₂ (λ (x y : List Node). x ++ (lines b ++ y)) (ap (take (k - size a)) here-lines ∙ take-at (flat under) (lines a ++ after) (k - size a) m)
-        (ap (dropFirst k) (here-lines ∙ sym (append-assoc (flat under) (lines a) after)) ∙ drop-at p after k long)
+    unfolding under after ended
+    here-replaced b = ended-replaced ended b

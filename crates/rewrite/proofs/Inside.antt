@@ -70,15 +70,18 @@ module _ {ns : List Node} {n : ℕ} {a : Term} where
     long : length upTo ≡ n
     long = let e = x .ends in omega (arith, length-append (flat (x .stack)) (lines a), size-lines a)
 
-    -- so it is what the definition finds there
-    pub ended-found : endedAt ns n ≡ some a
-    unfolding endedAt read
-    ended-found =
-        let reads : read 0 (take n ns) [] ≡ accepted (a ∷ x .stack) =
+    -- the lines up to the node's own put it on the stack
+    pub ended-reads : read 0 (take n ns) [] ≡ accepted (a ∷ x .stack)
+    unfolding read
+    ended-reads =
         ap (λ (l : List Node). read 0 (take n l) []) parts
         ∙ ap (λ (l : List Node). read 0 l []) (take-at upTo (x .rest) n long ∙ ap (λ (l : List Node). flat (x .stack) ++ l) (sym (append-nil (lines a))))
-        ∙ read-flat (x .stack) (lines a ++ []) ∙ read-lines a (length (flat (x .stack))) [] (x .stack) in
-        rw (le-leb n (length ns) (omega (arith, ended-length x)), reads)
+        ∙ read-flat (x .stack) (lines a ++ []) ∙ read-lines a (length (flat (x .stack))) [] (x .stack)
+
+    -- so it is what the definition finds there
+    pub ended-found : endedAt ns n ≡ some a
+    unfolding endedAt
+    ended-found = rw (le-leb n (length ns) (omega (arith, ended-length x)), ended-reads)
 
     -- the lines with another term's in their place
     pub ended-replaced : (b : Term) → replaced ns n a b ≡ flat (x .stack) ++ (lines b ++ x .rest)
