@@ -6,19 +6,19 @@ use Prim.Native.Nat.{ℕ}
 use Rattle.laws.proofs.EachMember.{Each}
 use Rattle.database.specs.declared.Database.{Database}
 use Rattle.query.specs.declared.Query.{Query}
-use Rattle.rewrite.specs.Rewrite.{held}
-use Rattle.branches.specs.Branches.{Apart, Steps, OnBranch, made, Interleaved, told}
+use Rattle.rewrite.specs.Rewrite.{Step, held}
+use Rattle.branches.specs.Branches.{Apart, Given, OnBranch, Interleaved, told}
 use Rattle.branches.proofs.Sides.{Sides, one-after-other, told-apart}
 
-module _ (w limit : ℕ) (d : Database) (store : List ℕ) (q : Query) (m m′ : ℕ) (apart : Apart q m m′)
-    (xs ys : Steps) (first : Each (OnBranch q m) xs) (second : Each (OnBranch q m′) ys) where
-  sides : Sides q m m′ xs ys
+module _ (w limit : ℕ) (d : Database) (store : List ℕ) (q : Query) (m m′ : ℕ) (apart : Apart q m m′) (xs ys : List Step)
+    (first : Each (λ (s : Step). Given limit d store q s × OnBranch q m s) xs) (second : Each (λ (s : Step). Given limit d store q s × OnBranch q m′ s) ys) where
+  sides : Sides w limit d store q m m′ xs ys
   sides = record { apart = apart; first = first; second = second }
 
   -- any two interleavings end in the same sheet
-  pub interleavings-agree : (zs zs′ : Steps) → Interleaved xs ys zs → Interleaved xs ys zs′ → held w q (made limit d store zs) ≡ held w q (made limit d store zs′)
+  pub interleavings-agree : (zs zs′ : List Step) → Interleaved xs ys zs → Interleaved xs ys zs′ → held w q zs ≡ held w q zs′
   interleavings-agree zs zs′ h h′ = one-after-other w limit d store h q sides ∙ sym (one-after-other w limit d store h′ q sides)
 
   -- each list's verdicts, in an interleaving as alone
-  pub told-as-alone : (zs : Steps) → Interleaved xs ys zs → Interleaved (told w limit q d store xs) (told w limit q d store ys) (told w limit q d store zs)
+  pub told-as-alone : (zs : List Step) → Interleaved xs ys zs → Interleaved (told w q xs) (told w q ys) (told w q zs)
   told-as-alone zs h = told-apart w limit d store h q sides

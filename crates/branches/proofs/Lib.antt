@@ -2,6 +2,7 @@ pub mod Beside
 pub mod SetsCommute
 pub mod Stretches
 pub mod BranchSteps
+pub mod GivenSteps
 pub mod StepsCommute
 pub mod BranchesKept
 pub mod Sides

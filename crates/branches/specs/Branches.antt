@@ -1,9 +1,9 @@
 -- Document 02's "Two editors on two branches": which nodes lie on two branches, what it is for two steps there to commute, and the lists of steps that two
--- editors make by turns. w is the number of columns, limit the highest node count.
+-- editors make by turns. w is the number of columns.
 use mathlib.Core.Path.{_≡_}
-use mathlib.Core.Logic.{_≢_}
+use mathlib.Core.Logic.{_↔_, _≢_}
 use mathlib.Core.Option.{some}
-use mathlib.Core.List.{List, [], _∷_, map}
+use mathlib.Core.List.{List, [], _∷_}
 use Prim.Native.Nat.{ℕ, _+_, _≤_, _<_}
 use Rattle.algebra.specs.Term.{Term}
 use Rattle.algebra.specs.Columns.{size}
@@ -14,7 +14,7 @@ use Rattle.query.specs.declared.Node.{Node}
 use Rattle.query.specs.declared.Query.{Query}
 use Rattle.query.specs.Lines.{nodes, termOf}
 use Rattle.query.specs.Check.{splitTerm, splitOf}
-use Rattle.rewrite.specs.Rewrite.{endedAt, rewrite, handedBack, Step}
+use Rattle.rewrite.specs.Rewrite.{endedAt, handedBack, Step, replied}
 
 -- the lines in which the nodes of steps count: "all later node places count in the split sheet". A sheet that has none, and gets 3 or 20, is as typed.
 abbrev pub splitLines : Query → List Node
@@ -39,27 +39,25 @@ pub record Apart (q : Query) (m n : ℕ) : Type 0 where
   pub not-over : ¬ Under q n m
 
 -- the sheet after a step: the rule's where it is accepted, else the one given
-abbrev pub stepped : ℕ → ℕ → Query → Database → List ℕ → ℕ → ℕ → Query
-stepped w limit q d store k n = handedBack q (rewrite w limit q d store k n)
+abbrev pub stepped : ℕ → Query → Step → Query
+stepped w q s = handedBack q (replied w q s)
 
--- "either is accepted after the other exactly if it was before, with the same refusal otherwise, and … both orders end in the same sheet": the step of kind k at
--- node n and that of kind k′ at node n′, "both given the same book"
-pub record Commute (w limit : ℕ) (q : Query) (d : Database) (store : List ℕ) (k n k′ n′ : ℕ) : Type 0 where
-  pub first-after : verdict (rewrite w limit (stepped w limit q d store k′ n′) d store k n) ≡ verdict (rewrite w limit q d store k n)
-  pub second-after : verdict (rewrite w limit (stepped w limit q d store k n) d store k′ n′) ≡ verdict (rewrite w limit q d store k′ n′)
-  pub same-sheet : stepped w limit (stepped w limit q d store k n) d store k′ n′ ≡ stepped w limit (stepped w limit q d store k′ n′) d store k n
+-- "both given the same book", each with a node limit of its own, that of desk or panel: with it the sheet is taken exactly if it is with this one
+pub record Given (limit : ℕ) (d : Database) (store : List ℕ) (q : Query) (s : Step) : Type 0 where
+  pub same-database : s .database ≡ d
+  pub same-store : s .store ≡ store
+  pub taken : (q .count ≤ s .limit) ↔ (q .count ≤ limit)
 
--- an editor's list: kinds and nodes
-abbrev pub Steps : Type 0
-Steps = List (ℕ × ℕ)
+-- "either is accepted after the other exactly if it was before, with the same refusal otherwise, and … both orders end in the same sheet"
+pub record Commute (w : ℕ) (q : Query) (s s′ : Step) : Type 0 where
+  pub first-after : verdict (replied w (stepped w q s′) s) ≡ verdict (replied w q s)
+  pub second-after : verdict (replied w (stepped w q s) s′) ≡ verdict (replied w q s′)
+  pub same-sheet : stepped w (stepped w q s) s′ ≡ stepped w (stepped w q s′) s
 
 -- a step of kinds 1 to 6 at node m or at one under it
-abbrev pub OnBranch : Query → ℕ → ℕ × ℕ → Type 0
-OnBranch q m s = (s .0 ≤ 6) × Stretch q m (s .1)
-
--- the list as it is made, each step with this limit and this book
-abbrev pub made : ℕ → Database → List ℕ → Steps → List Step
-made limit d store steps = map (λ (s : ℕ × ℕ). record { limit = limit; database = d; store = store; kind = s .0; node = s .1 }) steps
+pub record OnBranch (q : Query) (m : ℕ) (s : Step) : Type 0 where
+  pub kind : s .kind ≤ 6
+  pub node : Stretch q m (s .node)
 
 -- the third list is made of the first two by turns, each in its order
 pub data Interleaved {A : Type 0} : List A → List A → List A → Type 0 where
@@ -68,7 +66,6 @@ pub data Interleaved {A : Type 0} : List A → List A → List A → Type 0 wher
   from-second : {x : A} {l m n : List A} → Interleaved l m n → Interleaved l (x ∷ m) (x ∷ n)
 
 -- each step of a list with the verdict that its editor gets
-unfoldable pub told : ℕ → ℕ → Query → Database → List ℕ → Steps → List ((ℕ × ℕ) × Verdict)
-told w limit q d store [] = []
-told w limit q d store (s ∷ steps) =
-    (s, verdict (rewrite w limit q d store (s .0) (s .1))) ∷ told w limit (stepped w limit q d store (s .0) (s .1)) d store steps
+unfoldable pub told : ℕ → Query → List Step → List (Step × Verdict)
+told w q [] = []
+told w q (s ∷ steps) = (s, verdict (replied w q s)) ∷ told w (stepped w q s) steps

@@ -2,6 +2,7 @@
 use mathlib.Core.Path.{_≡_, refl, ap, sym, _∙_}
 use mathlib.Core.Option.{some}
 use mathlib.Core.List.{List, map}
+use Prim.Native.Nat.{ℕ, _≤_}
 use native.Mathlib.Omega.{arith}
 use Rattle.laws.specs.Lists.{every, any, sift, all, lowest, tabulate}
 use Rattle.laws.proofs.Options.{some-inj}
@@ -22,9 +23,10 @@ use Rattle.query.specs.Check.{splitFaults, splitTerm, unless, firstPass, second
 use Rattle.text.specs.Lines.{filled}
 use Rattle.text.specs.Texts.{queryValue}
 use Rattle.rewrite.specs.Rewrite.{around, rule, endedAt, rewrite}
-use Rattle.branches.specs.Branches.{splitLines, Under, Apart, Commute}
+use Rattle.branches.specs.Branches.{splitLines, Under, Apart, Given, Commute}
 use Rattle.branches.proofs.StepsCommute.{steps-commute}
-use Rattle.examples.specs.Branches.{book, store, Turns, orders, turns, nested, halves, filters}
+use Rattle.machine.specs.Limits.{panelLimits}
+use Rattle.examples.specs.Branches.{book, store, made, Turns, orders, turns, nested, halves, filters, onlyDesk}
 
 pub turns-hold : map orders turns ≡ map (λ (x : Turns). x .expected) turns
 unfolding every any sift all lowest tabulate with without both pairCols cols free size fixes fixNumbers pairOrigin origin used branches unitedFrom split loopOf over overBoth pairMatch match sharedStable othersUnused stableEnough unusedEnough closedEnough rename written ordered ascend rowsOf entries tableStart tableOk checkDatabase checkForm lines push read termOf splitFaults splitTerm unless firstPass secondPass faults checkQuery checkOver filled around rule endedAt rewrite mathlib.Core.List.flatMap
@@ -61,8 +63,15 @@ halves-apart = record {
   not-over = λ u. let h = u .among .to in omega arith;
 }
 
-pub halves-commute : Commute columns nodeLimit query book store 1 11 1 22
-halves-commute = steps-commute columns nodeLimit query book store 1 11 1 22 (omega arith) (omega arith) halves-apart
+-- the sheet is taken with this limit, as it is at the desk
+given : (limit : ℕ) (s : ℕ × ℕ) → 23 ≤ limit → Given nodeLimit book store query (made limit s)
+given limit s h = record { same-database = refl; same-store = refl; taken = ((λ _. omega arith), (λ _. h)) }
+
+-- one step at the desk, the other at the panel
+pub halves-commute : Commute columns query (made nodeLimit (1, 11)) (made (panelLimits .nodes) (1, 22))
+halves-commute =
+    steps-commute columns nodeLimit book store query (made nodeLimit (1, 11)) (made (panelLimits .nodes) (1, 22))
+    (given nodeLimit (1, 11) (omega arith)) (given (panelLimits .nodes) (1, 22) (omega arith)) (omega arith) (omega arith) halves-apart
 
 -- one filter over the other
 abbrev twoFilters : Query
@@ -86,6 +95,11 @@ filters-under = record {
   among = record { node = upper; ends = upper-ends; from = omega (arith, upper-size); to = omega arith };
 }
 
-pub filters-fail : Commute columns nodeLimit twoFilters book store 1 11 1 12 → ⊥
+pub filters-fail : Commute columns twoFilters (made nodeLimit (1, 11)) (made nodeLimit (1, 12)) → ⊥
 unfolding every any sift all lowest tabulate with without both pairCols cols free size fixes fixNumbers pairOrigin origin used branches unitedFrom split loopOf over overBoth pairMatch match sharedStable othersUnused stableEnough unusedEnough closedEnough rename written ordered ascend rowsOf entries tableStart tableOk checkDatabase checkForm lines push read termOf splitFaults splitTerm unless firstPass secondPass faults checkQuery checkOver filled around rule endedAt rewrite mathlib.Core.List.flatMap
 filters-fail c = accepted-not-refused (c .second-after)
+
+-- a sheet that the desk takes and the panel does not
+pub limits-fail : Commute columns (queryValue onlyDesk) (made nodeLimit (1, 11)) (made (panelLimits .nodes) (1, 22)) → ⊥
+unfolding every any sift all lowest tabulate with without both pairCols cols free size fixes fixNumbers pairOrigin origin used branches unitedFrom split loopOf over overBoth pairMatch match sharedStable othersUnused stableEnough unusedEnough closedEnough rename written ordered ascend rowsOf entries tableStart tableOk checkDatabase checkForm lines push read termOf splitFaults splitTerm unless firstPass secondPass faults checkQuery checkOver filled around rule endedAt rewrite mathlib.Core.List.flatMap
+limits-fail c = accepted-not-refused (c .second-after)

@@ -1,8 +1,9 @@
 -- Two editors on two branches (document 02, U10): what two steps reply before and after each other, and the sheet that each order leaves.
 use mathlib.Core.List.{List, [], _∷_, _++_}
 use Prim.Native.Nat.{ℕ}
+use lib.ListN.{replicate}
 use Rattle.algebra.specs.declared.Pairing.the-variants.{Union, Join}
-use Rattle.algebra.specs.declared.Condition.the-variants.{Eq}
+use Rattle.algebra.specs.declared.Condition.the-variants.{Eq, Ne}
 use Rattle.relation.specs.Rows.{columns}
 use Rattle.database.specs.declared.Database.{Database}
 use Rattle.database.specs.Refusals.{Reply, refused, accepted, number, placeOf}
@@ -11,7 +12,7 @@ use Rattle.query.specs.declared.Node.the-variants.{Table, Pair, Filter, Fix, Mu
 use Rattle.query.specs.declared.Query.{Query}
 use Rattle.query.specs.Lines.{nodes, nodeLimit}
 use Rattle.text.specs.Texts.{queryValue, databaseValue, tableEntries}
-use Rattle.rewrite.specs.Rewrite.{rewrite}
+use Rattle.rewrite.specs.Rewrite.{Step, replied}
 use Rattle.branches.specs.Branches.{stepped}
 use Rattle.engine.specs.Starred.{doors, reach, reachStep}
 use Rattle.examples.specs.Values.{floors, reachFloors, stepOnly}
@@ -23,7 +24,7 @@ book = databaseValue columns (doors ++ floors)
 abbrev pub store : List ℕ
 store = tableEntries (doors ++ floors)
 
--- number and place, or nothing where it is accepted
+-- number and place, unless it is accepted
 pub data Told : Type 0 where
   accepts : Told
   refuses : ℕ → ℕ → Told
@@ -32,11 +33,15 @@ abbrev pub toldOf : Reply Query → Told
 toldOf (refused r) = refuses (number r) (placeOf r)
 toldOf (accepted q) = accepts
 
-abbrev pub step : Query → ℕ × ℕ → Reply Query
-step q s = rewrite columns nodeLimit q book store (s .0) (s .1)
+-- a step, kind and node, made with a node limit
+abbrev pub made : ℕ → ℕ × ℕ → Step
+made limit s = record { limit = limit; database = book; store = store; kind = s .0; node = s .1 }
+
+abbrev pub reply : Query → ℕ × ℕ → Reply Query
+reply q s = replied columns q (made nodeLimit s)
 
 abbrev pub after : Query → ℕ × ℕ → Query
-after q s = stepped columns nodeLimit q book store (s .0) (s .1)
+after q s = stepped columns q (made nodeLimit s)
 
 -- what the first step is told before and after the second, the second before and after the first, and the lines after both: the first before the second, and
 -- the second before the first
@@ -59,10 +64,10 @@ abbrev pub orders : Turns → Orders
 orders x =
     let q = queryValue (x .query) in
     record {
-      first = toldOf (step q (x .first));
-      firstAfter = toldOf (step (after q (x .second)) (x .first));
-      second = toldOf (step q (x .second));
-      secondAfter = toldOf (step (after q (x .first)) (x .second));
+      first = toldOf (reply q (x .first));
+      firstAfter = toldOf (reply (after q (x .second)) (x .first));
+      second = toldOf (reply q (x .second));
+      secondAfter = toldOf (reply (after q (x .first)) (x .second));
       firstThenSecond = nodes (after (after q (x .first)) (x .second));
       secondThenFirst = nodes (after (after q (x .second)) (x .first));
     }
@@ -141,3 +146,7 @@ nested =
       };
     }
     ∷ [])
+
+-- 33 nodes as typed, 32 once the mu is split: the panel takes it only after a step at the desk
+abbrev pub onlyDesk : List Node
+onlyDesk = halvesMu ++ replicate 9 (Filter (Ne 0 9))

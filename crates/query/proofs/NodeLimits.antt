@@ -3,6 +3,7 @@ use mathlib.Core.Path.{_≡_, ap, sym, _∙_}
 use mathlib.Core.List.{List}
 use Prim.Native.Nat.{ℕ, _≤_}
 use native.Mathlib.Omega.{arith}
+use lib.Dec.{leb}
 use borrow.Author.Tests.{le-leb}
 use Rattle.algebra.specs.Term.{Term}
 use Rattle.algebra.specs.Columns.{Schema, size}
@@ -37,15 +38,23 @@ module _ (w limit : ℕ) (q : Query) (d : Database) (store : List ℕ) (t : Term
   pub few-checked : size t ≤ limit
   few-checked = omega (arith, accepted-within, term-few (check-over-iff w limit q d store t .0 checked .1))
 
-module _ (q : Query) (limit limit′ : ℕ) (h : q .count ≤ limit) (h′ : q .count ≤ limit′) where
-  form-limits : (w : ℕ) → checkForm w limit q ≡ checkForm w limit′ q
+pub both-within : (n limit limit′ : ℕ) → n ≤ limit → n ≤ limit′ → leb n limit ≡ leb n limit′
+both-within n limit limit′ h h′ = le-leb n limit h ∙ sym (le-leb n limit′ h′)
+
+-- or is within neither
+module _ (q : Query) (limit limit′ : ℕ) (e : leb (q .count) limit ≡ leb (q .count) limit′) where
+  form-agree : (w : ℕ) → checkForm w limit q ≡ checkForm w limit′ q
   unfolding checkForm
-  form-limits w = rw (le-leb (q .count) limit h, le-leb (q .count) limit′ h′)
+  form-agree w = rw e
 
-  check-query-limits : (G : Schema) → checkQuery limit q G ≡ checkQuery limit′ q G
+  check-query-agree : (G : Schema) → checkQuery limit q G ≡ checkQuery limit′ q G
   unfolding checkQuery
-  check-query-limits G = rw (form-limits (G .width))
+  check-query-agree G = rw (form-agree (G .width))
 
-  pub check-over-limits : (w : ℕ) (d : Database) (store : List ℕ) → checkOver w limit q d store ≡ checkOver w limit′ q d store
+  pub check-over-agree : (w : ℕ) (d : Database) (store : List ℕ) → checkOver w limit q d store ≡ checkOver w limit′ q d store
   unfolding checkOver
-  check-over-limits w d store = rw (check-query-limits (schema w d))
+  check-over-agree w d store = rw (check-query-agree (schema w d))
+
+pub check-over-limits : (q : Query) (limit limit′ : ℕ) → q .count ≤ limit → q .count ≤ limit′
+    → (w : ℕ) (d : Database) (store : List ℕ) → checkOver w limit q d store ≡ checkOver w limit′ q d store
+check-over-limits q limit limit′ h h′ = check-over-agree q limit limit′ (both-within (q .count) limit limit′ h h′)

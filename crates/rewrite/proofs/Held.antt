@@ -38,7 +38,7 @@ use Rattle.query.proofs.CheckedTerms.{term-formed, term-few, well-checked}
 use Rattle.query.proofs.CheckedOver.{check-over-iff}
 use Rattle.query.proofs.NodeLimits.{checked-within, one-term}
 use Rattle.query.proofs.Replaced.{Replaced, replaced}
-use Rattle.rewrite.specs.Rewrite.{rewrite, withNodes, handedBack, Step, held}
+use Rattle.rewrite.specs.Rewrite.{rewrite, withNodes, handedBack, Step, replied, held}
 use Rattle.rewrite.specs.Rewrite as R
 use Rattle.rewrite.proofs.OnForm.{OnForm, form-append, form-split, form-index, form-at, form-written}
 use Rattle.rewrite.proofs.NodeParts.{EndsAt, ends-at, part-narrow, part-closed, around-narrow}
@@ -129,10 +129,6 @@ module _ (w limit : ℕ) (q : Query) (d : Database) (store : List ℕ) (t : Term
 
   pub step-kept : Kept G t p
   step-kept = record { term = now .term; checked = checked-within (p .count) step-checked (omega arith); swap = now .swap }
-
--- what a step of a list replies
-abbrev pub replied : ℕ → Query → Step → Reply Query
-replied w q s = rewrite w (s .limit) q (s .database) (s .store) (s .kind) (s .node)
 
 -- one step, over a book with the columns G
 module _ (w : ℕ) (G : Schema) (t : Term) where

@@ -4,22 +4,28 @@ use mathlib.Core.Path.{_≡_, refl, ap, _∙_}
 use mathlib.Core.List.{List, [], _∷_, map}
 use Prim.Native.Nat.{ℕ, _≤_}
 use native.Mathlib.Omega.{arith}
+use lib.Dec.{leb}
 use Rattle.laws.proofs.EachMember.{Each, each-map}
 use Rattle.database.specs.declared.Database.{Database}
 use Rattle.database.specs.Refusals.{Reply, refused, accepted}
 use Rattle.query.specs.declared.Query.{Query}
-use Rattle.query.proofs.NodeLimits.{accepted-within, check-over-limits}
-use Rattle.rewrite.specs.Rewrite.{rewrite, handedBack, Step, held}
+use Rattle.query.proofs.NodeLimits.{both-within, accepted-within, check-over-agree}
+use Rattle.rewrite.specs.Rewrite.{rewrite, handedBack, Step, replied, held}
 use Rattle.rewrite.proofs.RewriteExact.{accepted-iff}
-use Rattle.rewrite.proofs.Held.{checked-first, step-within, replied}
+use Rattle.rewrite.proofs.Held.{checked-first, step-within}
+
+-- also on one that is within neither
+pub rewrite-agree : (q : Query) (limit limit′ : ℕ) → leb (q .count) limit ≡ leb (q .count) limit′
+    → (w : ℕ) (d : Database) (store : List ℕ) (k n : ℕ) → rewrite w limit q d store k n ≡ rewrite w limit′ q d store k n
+unfolding rewrite
+rewrite-agree q limit limit′ e w d store k n = rw (check-over-agree q limit limit′ e w d store)
 
 pub rewrite-limits : (q : Query) (limit limit′ : ℕ) → q .count ≤ limit → q .count ≤ limit′
     → (w : ℕ) (d : Database) (store : List ℕ) (k n : ℕ) → rewrite w limit q d store k n ≡ rewrite w limit′ q d store k n
-unfolding rewrite
-rewrite-limits q limit limit′ h h′ w d store k n = rw (check-over-limits q limit limit′ h h′ w d store)
+rewrite-limits q limit limit′ h h′ = rewrite-agree q limit limit′ (both-within (q .count) limit limit′ h h′)
 
 -- "Node count never changes.": a step that is accepted is accepted under the count that its query has
-step-count : (w limit : ℕ) (q : Query) (d : Database) (store : List ℕ) (k n : ℕ) (r : Reply Query) → rewrite w limit q d store k n ≡ r
+pub step-count : (w limit : ℕ) (q : Query) (d : Database) (store : List ℕ) (k n : ℕ) (r : Reply Query) → rewrite w limit q d store k n ≡ r
     → handedBack q r .count ≤ q .count
 step-count w limit q d store k n (refused _) e = omega arith
 step-count w limit q d store k n (accepted p) e =
