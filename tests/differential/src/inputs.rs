@@ -36,9 +36,23 @@ impl At {
         }
     }
 
-    fn rewrite(self, random: &mut Random, nodes: usize, (kind, node): (u32, u32)) -> Call {
+    fn rewrite(self, random: &mut Random, nodes: usize, step: (u32, u32)) -> Call {
+        let limit = self.limit(random, nodes);
+        self.rewrite_within(limit, step)
+    }
+
+    /// A node limit of the desk; the panel has its own.
+    pub fn limit(self, random: &mut Random, nodes: usize) -> usize {
         match self {
-            At::Desk => Call::Rewrite { limit: limit(random, nodes), kind, node },
+            At::Desk => limit(random, nodes),
+            At::Panel => self.nodes(),
+        }
+    }
+
+    /// A step with this node limit.
+    pub fn rewrite_within(self, limit: usize, (kind, node): (u32, u32)) -> Call {
+        match self {
+            At::Desk => Call::Rewrite { limit, kind, node },
             At::Panel => Call::PanelRewrite { kind, node },
         }
     }

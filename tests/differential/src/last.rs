@@ -152,15 +152,8 @@ pub fn cases(random: &mut Random, tally: &mut Tally) {
         compared(tally, call, &given);
         for (node, kind) in lasts(&query, &database).into_iter().flat_map(|node| (1..=6).map(move |kind| (node, kind)))
         {
-            compared(tally, rewrite(at, kind, node), &slices);
+            compared(tally, at.rewrite_within(NODES, (kind, node)), &slices);
         }
-    }
-}
-
-fn rewrite(at: At, kind: u32, node: u32) -> Call {
-    match at {
-        At::Desk => Call::Rewrite { limit: NODES, kind, node },
-        At::Panel => Call::PanelRewrite { kind, node },
     }
 }
 
@@ -195,11 +188,11 @@ pub fn flat_lines(tally: &mut Tally) {
             for call in [
                 Call::Check { limit: NODES },
                 Call::Compile { limit: NODES },
-                rewrite(At::Desk, 1, 2),
+                At::Desk.rewrite_within(NODES, (1, 2)),
                 Call::Run { limit: NODES, rows: 64, budget: 9 },
                 Call::PanelCheck,
                 Call::PanelCompile,
-                rewrite(At::Panel, 1, 2),
+                At::Panel.rewrite_within(NODES, (1, 2)),
                 Call::PanelRun { budget: 9 },
             ] {
                 compared(tally, call, &given);

@@ -1,11 +1,12 @@
 //! Compares the engine with the reference, call by call: `differential SEED COUNT` on the inputs of COUNT seeds from SEED
-//! on. A case is one call: the reply and all lent slices afterwards, the rows of a path's run beside what the path links, or the
-//! lines of a run beside the product. A difference prints its seed and both sides. Then texts of at most one byte, the rows and
-//! lines run of each workload of bench/, lines of every code, a `last` over 4,096 rows, and texts with each byte at each place. The
-//! last line is 'N passed, M failed'.
+//! on. A case is one call: the reply and all lent slices afterwards, the rows of a path's run beside what the path links, the
+//! lines of a run beside the product, or steps on two branches beside the same in another order. A difference prints its seed and
+//! both sides. Then texts of at most one byte, the rows and lines run of each workload of bench/, lines of every code, a `last` over
+//! 4,096 rows, and texts with each byte at each place. The last line is 'N passed, M failed'.
 
 mod allowance;
 mod at;
+mod branches;
 mod call;
 mod inputs;
 mod last;
@@ -27,15 +28,24 @@ use tally::Tally;
 const SEED: u64 = 1;
 const COUNT: u64 = 1500;
 
-/// One case: the slices that the engine left if both sides accept, else a refusal.
-fn replied(tally: &mut Tally, call: Call, before: &Slices) -> Result<Slices, Refusal> {
+/// What a call replies, and the slices that it left.
+type Made = (Result<(), Refusal>, Slices);
+
+/// One case: what the reference makes of a call and what the engine does.
+fn made(tally: &mut Tally, call: Call, before: &Slices) -> (Made, Made) {
     let (mut due, mut left) = (before.clone(), before.clone());
     let expected = call.by_reference(&mut due);
     let replied = call.by_engine(&mut left);
     tally.meet(call, expected, before, &due);
-    let found = (replied, left);
-    tally.case(|| format!("{call:?} of {before:?}"), &(expected, due), &found);
-    expected.and(replied).map(|()| found.1)
+    let (expected, found) = ((expected, due), (replied, left));
+    tally.case(|| format!("{call:?} of {before:?}"), &expected, &found);
+    (expected, found)
+}
+
+/// One case: the slices that the engine left if both sides accept, else a refusal.
+fn replied(tally: &mut Tally, call: Call, before: &Slices) -> Result<Slices, Refusal> {
+    let ((expected, _), (replied, left)) = made(tally, call, before);
+    expected.and(replied).map(|()| left)
 }
 
 /// One case: the slices that the engine left, if both sides accept.
@@ -67,6 +77,7 @@ fn main() -> ExitCode {
         paths::cases(&mut Random::new(seed), &mut tally);
         allowance::cases(&mut Random::new(seed), &mut tally);
         last::cases(&mut Random::new(seed), &mut tally);
+        branches::cases(&mut Random::new(seed), &mut tally);
         wrapper::cases(&mut Random::new(seed), &mut tally);
     }
     calls(&mut tally, inputs::shortest(&mut Random::new(seed)));

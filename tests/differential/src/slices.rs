@@ -161,8 +161,7 @@ pub fn operand_columns<'a>(line: &Line, checked: &'a Checked) -> Option<[&'a Col
     if !matches!(line.operation, Operation::Pair(_)) {
         return None;
     }
-    let nodes = checked.root.nodes();
-    let term = nodes.iter().find(|term| term.node == line.destination + 1)?;
+    let term = checked.root.at(line.destination + 1)?;
     Some([0, 1].map(|operand| checked.columns(&term.operands[operand])))
 }
 

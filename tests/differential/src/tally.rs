@@ -1,6 +1,7 @@
 //! The cases passed and failed, and what the calls met.
 
 use crate::allowance;
+use crate::branches;
 use crate::call::Call;
 use crate::last;
 use crate::paths;
@@ -48,6 +49,7 @@ pub struct Tally {
     pub paths: paths::Met,
     pub allowance: allowance::Met,
     pub last: last::Met,
+    pub branches: branches::Met,
 }
 
 impl Tally {
@@ -172,13 +174,14 @@ impl Tally {
         self.paths.print();
         self.allowance.print();
         self.last.print();
+        self.branches.print();
     }
 
     /// A case of its own: every call was accepted and at desk and panel every kind; every number was given, 16 never at the
     /// panel; runs were refused over each limit, and at the panel some finished with the most nodes and rows; filters met 0, and
     /// runs finished over a book of zero bytes. Queries with a `mu` met every call but those that read a path or a database and
     /// every kind, 20 at both, and 3 to 10 at one or the other. Columns came home under every kind that asks for stable ones, and
-    /// 13 had every cause at desk and panel. Paths, products and last issues met what they had to.
+    /// 13 had every cause at desk and panel. Paths, products, last issues and two branches met what they had to.
     pub fn all_met(&mut self) {
         let accepted = self.accepted.iter().chain(self.kinds.iter().flat_map(|kinds| &kinds[1..]));
         let given = self.numbers[0][1..].iter();
@@ -193,13 +196,14 @@ impl Tally {
         let met = accepted.chain(given).chain(refused).chain(mus).chain(mu_kinds).chain(homes).all(|times| *times > 0);
         let most = self.most[1][..2] == [panel::NODES as u32, panel::ROW_LIMIT];
         let zeros = self.unknown > 0 && self.empty > 0;
-        let requests = self.paths.all_met() && self.allowance.all_met() && self.last.all_met();
-        if met && mu_numbers && self.numbers[1][16] == 0 && most && zeros && requests {
+        let requests = self.paths.all_met() && self.allowance.all_met();
+        let later = self.last.all_met() && self.branches.all_met();
+        if met && mu_numbers && self.numbers[1][16] == 0 && most && zeros && requests && later {
             self.passed += 1;
         } else {
             println!(
                 "FAILED every call and kind is accepted, every number given, every limit, 0 under filters, an empty book, mu, \
-                columns that come home, paths, products and last issues met"
+                columns that come home, paths, products, last issues and two branches met"
             );
             self.failed += 1;
         }

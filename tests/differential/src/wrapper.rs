@@ -13,6 +13,7 @@ use reference::damage;
 use reference::panel;
 use reference::paths::read_path;
 use reference::plan::{self, plan, Operation};
+use reference::random::branches::{self, Step};
 use reference::random::{self, Random};
 use reference::rewrite::rewrite;
 use reference::run::{self, run, workspace_entries};
@@ -168,6 +169,7 @@ pub fn cases(random: &mut Random, tally: &mut Tally) {
     if random.once_in(3) {
         paths(random, tally);
     }
+    two_branches(random, tally);
 }
 
 /// Row limit of the run that tells what a query's columns hold.
@@ -264,19 +266,9 @@ fn values(random: &mut Random, tally: &mut Tally, database: &Database, mut query
         };
         tally.case(|| format!("{at:?}: check {}", told(&query)), &expected, &found.map_err(given));
     }
-    for (kind, node) in random::steps(random, &query) {
+    for made in random::steps(random, &query) {
         let at = At::BOTH[random.below(2)];
-        let before = query.clone();
-        let (expected, found) = match at {
-            At::Desk => (rewrite(database, &query, kind, node), held.rewrite(&stored, kind, node)),
-            At::Panel => (
-                panel::rewrite(database, &query, kind, node),
-                capeshard::panel::rewrite(&mut held, &stored, kind, node),
-            ),
-        };
-        let expected = expected.map(|rewritten| query = rewritten);
-        let (expected, found) = ((expected, lines_of(&query)), (found.map_err(given), held.lines()));
-        tally.case(|| format!("{at:?}: rewrite {kind},{node} of {}", told(&before)), &expected, &found);
+        step(tally, at, made, (database, &mut query), (&stored, &mut held));
     }
     for at in At::BOTH {
         let expected = checked(at, database, &query).map(|checked| plan_of(&checked));
@@ -291,6 +283,46 @@ fn values(random: &mut Random, tally: &mut Tally, database: &Database, mut query
         let finished = runs(random, tally, at, rows, (database, &query), (&stored, &held));
         tally.empty += u64::from(empty && finished);
     }
+}
+
+/// A step at desk or panel; what the wrapper refuses it with.
+fn step(
+    tally: &mut Tally,
+    at: At,
+    (kind, node): Step,
+    (database, query): (&Database, &mut Query),
+    (stored, held): (&capeshard::Database, &mut capeshard::Query),
+) -> Option<Refusal> {
+    let before = query.clone();
+    let told = || format!("{at:?}: rewrite {kind},{node} of {:?} over {database:?}", shown(&print_query(&before)));
+    let (expected, found) = match at {
+        At::Desk => (rewrite(database, query, kind, node), held.rewrite(stored, kind, node)),
+        At::Panel => (panel::rewrite(database, query, kind, node), capeshard::panel::rewrite(held, stored, kind, node)),
+    };
+    let (expected, found) = (expected.map(|rewritten| *query = rewritten), found.map_err(given));
+    tally.case(told, &(expected, lines_of(query)), &(found, held.lines()));
+    found.err()
+}
+
+/// Two steps on two branches at desk or panel, in both orders: the same replies and one query, the entries past its count included.
+fn two_branches(random: &mut Random, tally: &mut Tally) {
+    let mut database = random::database(random);
+    let at = At::BOTH[random.below(2)];
+    let query = branches::query(random, database.schema(), panel::NODES + 8);
+    let [one, other] = branches::pair(random, database.schema(), &query);
+    if random.once_in(8) {
+        database = exchanged(random, &database);
+    }
+    let stored = capeshard::Database::of(&tables_of(&database)).expect("the tables have a place");
+    let lines = lines_of(&query);
+    let mut made = |steps: [Step; 2]| {
+        let (mut query, mut held) = (query.clone(), capeshard::Query::of(&lines).expect("the lines have a place"));
+        let replies = steps.map(|made| step(tally, at, made, (&database, &mut query), (&stored, &mut held)));
+        (replies, held)
+    };
+    let (ends, (mut swapped, held)) = (made([one, other]), made([other, one]));
+    swapped.reverse();
+    tally.case(|| format!("{at:?}: {one:?} and {other:?} in both orders of {lines:?}"), &ends, &(swapped, held));
 }
 
 /// The product at desk or panel, a run that often has it as its budget, and one with one line less than that runs. Whether the

@@ -8,6 +8,7 @@ mod first_day;
 mod last_issues;
 mod one_piece;
 mod paths;
+mod two_branches;
 
 use crate::algebra::{Condition, Relation};
 use crate::answer::{answer, FILE_BYTES};
@@ -24,7 +25,7 @@ use crate::value::{slots_of, Database, Node, Query, Refusal, COLUMNS};
 
 /// What random inputs have met: accepted rewrites by kind, refusals by number, filters over rows with a 0 in their column and
 /// those of them that were pushed into a recursion, and what bytes of lines, books of zero bytes, desk and panel, recursions typed
-/// in one piece, columns that come home, property paths, products and last issues have.
+/// in one piece, columns that come home, property paths, products, last issues and two branches have.
 #[derive(Default)]
 pub struct Coverage {
     pub kinds: [u32; 7],
@@ -38,6 +39,7 @@ pub struct Coverage {
     pub paths: paths::Met,
     pub allowance: allowance::Met,
     pub last_issues: last_issues::Met,
+    pub two_branches: two_branches::Met,
 }
 
 impl Coverage {
@@ -47,26 +49,31 @@ impl Coverage {
 
     /// Each kind was accepted and each number given; filters met 0, also in a recursion; what bytes of lines and books of zero
     /// bytes met, the panel's share of it, and that of recursions typed in one piece, of columns that come home, of property paths,
-    /// of products and of last issues.
+    /// of products, of last issues and of two branches.
     pub fn outcomes(&self) -> Vec<Outcome> {
         let seen = format!("accepted by kind {:?}, refused by number {:?}", &self.kinds[1..], &self.numbers[1..]);
         let full = self.kinds[1..].iter().chain(&self.numbers[1..]).all(|times| *times > 0);
-        let all =
-            ("every kind is accepted and every number given".to_string(), if full { Ok(seen) } else { Err(seen) });
+        let all = outcome("every kind is accepted and every number given", full, seen);
         let seen = format!("{} filters over a 0, {} of them pushed in", self.unknown[0], self.unknown[1]);
         let met = self.unknown.iter().all(|times| *times > 0);
-        let unknown = ("filters meet unknown values".to_string(), if met { Ok(seen) } else { Err(seen) });
+        let unknown = outcome("filters meet unknown values", met, seen);
         let single = vec![all, unknown, self.bytes.outcome(), self.first_day.outcome(), self.panel.outcome()];
         let of_requests = [self.one_piece.outcomes(), self.comes_home.outcomes(), self.paths.outcomes()].concat();
-        [single, of_requests, self.allowance.outcomes(), self.last_issues.outcomes()].concat()
+        let later = [self.allowance.outcomes(), self.last_issues.outcomes(), self.two_branches.outcomes()].concat();
+        [single, of_requests, later].concat()
     }
+}
+
+/// Whether what has to be met was, and what was seen.
+fn outcome(name: &str, met: bool, seen: String) -> Outcome {
+    (name.to_string(), if met { Ok(seen) } else { Err(seen) })
 }
 
 /// `Ok(false)`: the input says nothing about the property.
 type Verdict = Result<bool, String>;
 type Property = fn(&mut Random, &mut Coverage) -> Verdict;
 
-const PROPERTIES: [(&str, Property); 47] = [
+const PROPERTIES: [(&str, Property); 50] = [
     ("a printed query is read back", queries_are_read_back),
     ("a printed database is read back", databases_are_read_back),
     ("a query's refusal names its first bad line", first_bad_line_of_a_query),
@@ -114,6 +121,9 @@ const PROPERTIES: [(&str, Property); 47] = [
     ("a greater row replaces one that a last kept, a lesser one changes nothing", last_issues::replaced),
     ("a last over an open node gets 5, over a node without its column 9", last_issues::put_anywhere),
     ("every kind gets 12 at a last, and accepted steps elsewhere keep it and the rows", last_issues::steps),
+    ("two steps on two branches reply and end alike in both orders", two_branches::pairs),
+    ("so they do at desk and panel, and what refuses a query or database refuses both", two_branches::anywhere),
+    ("two lists on two branches reply as alone and end alike by any turns", two_branches::by_turns),
 ];
 
 /// One test a property, each on the seeds from `seed` on.
@@ -157,10 +167,20 @@ fn ensure(holds: bool, why: &str, query: &Query, database: &Database) -> Result<
 fn input(random: &mut Random, capacity: usize) -> Result<(Database, Query, Checked), String> {
     let database = random::database(random);
     let query = random::query(random, database.schema(), capacity);
+    by_construction(database, query)
+}
+
+fn by_construction(database: Database, query: Query) -> Result<(Database, Query, Checked), String> {
     match check(&query, database.schema()) {
         Ok(checked) => Ok((database, query, checked)),
         Err(refusal) => Err(format!("refused by construction: {refusal:?}{}", told(&query, &database))),
     }
+}
+
+/// Past the count stands what the query was given with: any lines.
+fn fill_past(random: &mut Random, query: &mut Query) {
+    let count = query.count as usize;
+    query.nodes[count..].fill_with(|| random::node(random));
 }
 
 fn queries_are_read_back(random: &mut Random, _: &mut Coverage) -> Verdict {

@@ -1,5 +1,6 @@
-//! Random inputs from fixed seeds: databases, queries that are checked by construction, steps, property paths.
+//! Random inputs from fixed seeds: databases, queries that are checked by construction, steps, two branches, property paths.
 
+pub mod branches;
 pub mod paths;
 
 use crate::algebra::{Columns, Condition, Pairing, Relation, Row};
@@ -149,6 +150,10 @@ pub fn query_of_fixes(random: &mut Random, schema: &[Columns], nodes: usize) -> 
 
 /// The most branches of a `mu` that are made one by one; each may be a union of others.
 const BRANCHES: usize = 6;
+
+/// What kinds of rewrites look at: a redex for each of the six, in their order, and one for 2 and 3 with an open operand.
+const REDEXES: usize = 7;
+const OPEN: usize = 6;
 
 /// A database and a checked query whose largest register holds exactly so many rows, nine or more: those of a table, a
 /// union, a join or a fix. The lines above it add none.
@@ -742,7 +747,13 @@ impl<'a> Maker<'a> {
     /// Something that a kind of rewrite looks at.
     fn redex(&mut self, size: usize) -> Piece {
         let fix = self.fix(size);
-        match self.random.below(7) {
+        let sort = self.random.below(REDEXES);
+        self.redex_over(fix, sort, size)
+    }
+
+    /// What a kind looks at, over or beside a fix.
+    fn redex_over(&mut self, fix: Piece, sort: usize, size: usize) -> Piece {
+        match sort {
             // Kind 1 takes no `last` for a filter.
             0 if self.random.once_in(4) => self.last(fix),
             0 => match self.condition(&fix.columns) {
@@ -829,8 +840,8 @@ pub fn likely(lines: &[Node]) -> Vec<(u32, u32)> {
 
 /// A list of steps, most of them at lines of the split query that a kind looks at, some at such lines as typed.
 pub fn steps(random: &mut Random, query: &Query) -> Vec<(u32, u32)> {
-    let lines = if random.once_in(6) { query.lines().to_vec() } else { split_lines(query) };
-    let likely = likely(&lines);
+    let split = if random.once_in(6) { None } else { split_lines(query) };
+    let likely = likely(split.as_deref().unwrap_or(query.lines()));
     (0..random.below(5))
         .map(|_| match random.pick(likely.iter().copied()) {
             Some(step) if !random.once_in(6) => step,
@@ -840,9 +851,8 @@ pub fn steps(random: &mut Random, query: &Query) -> Vec<(u32, u32)> {
         .collect()
 }
 
-/// The lines of the split query; as typed if it isn't split.
-fn split_lines(query: &Query) -> Vec<Node> {
-    let on_the_form = query.form().is_ok();
-    let tree = if on_the_form { Term::of(query.lines()).ok() } else { None };
-    tree.and_then(|typed| split(&typed).ok()).unwrap_or_else(|| query.lines().to_vec())
+/// The lines of the split query, if it is split.
+fn split_lines(query: &Query) -> Option<Vec<Node>> {
+    query.form().ok()?;
+    split(&Term::of(query.lines()).ok()?).ok()
 }

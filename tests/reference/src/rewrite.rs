@@ -24,8 +24,7 @@ pub type Stability = fn(&Checked, &Term, &Columns) -> bool;
 
 /// The same by any notion of stable columns.
 pub fn apply_by(stable: Stability, checked: &Checked, query: &Query, kind: u32, node: u32) -> Result<Query, Refusal> {
-    let all = checked.root.nodes();
-    let Some(named) = all.iter().find(|term| term.node as u64 == u64::from(node)) else {
+    let Some(named) = checked.root.at(node as usize) else {
         return refuse(12, 0);
     };
     let Some(rule) = matched(named, kind) else {

@@ -86,7 +86,6 @@ fn print_line(checked: &Checked, line: &Line) -> String {
 
 /// The columns of the operands of the pair that writes a register.
 fn operand_columns(checked: &Checked, register: usize) -> (&Columns, &Columns) {
-    let all = checked.root.nodes();
-    let pair = all.iter().find(|term| term.node == register + 1).expect("each node has its register");
+    let pair = checked.root.at(register + 1).expect("each node has its register");
     (checked.columns(&pair.operands[0]), checked.columns(&pair.operands[1]))
 }

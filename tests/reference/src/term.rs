@@ -40,6 +40,21 @@ impl Term {
         self.first() <= node && node <= self.node
     }
 
+    /// The tree that ends at a node of this one.
+    pub fn at(&self, node: usize) -> Option<&Term> {
+        if node == self.node {
+            return Some(self);
+        }
+        self.operands.iter().find(|operand| operand.holds(node))?.at(node)
+    }
+
+    /// Two different nodes of which neither lies under the other, its line being another one of those that end there. A number that
+    /// is no node has no line and none that end there.
+    pub fn apart(&self, one: usize, other: usize) -> bool {
+        let under = |lower: usize, upper: usize| self.at(upper).is_some_and(|term| term.holds(lower));
+        one != other && !under(one, other) && !under(other, one)
+    }
+
     /// The lowest node of the tree.
     pub fn first(&self) -> usize {
         self.operands.first().map_or(self.node, Term::first)

@@ -2,7 +2,7 @@
 //! refused before the product.
 
 use super::desk_and_panel::{about, due, input, too_long};
-use super::{ensure, told, Coverage, Verdict, MOST};
+use super::{ensure, outcome, told, Coverage, Verdict, MOST};
 use crate::allowance::{allowance, Allowance};
 use crate::check::check;
 use crate::damage;
@@ -121,10 +121,6 @@ impl Met {
             ),
         ]
     }
-}
-
-fn outcome(name: &str, met: bool, seen: String) -> Outcome {
-    (name.to_string(), if met { Ok(seen) } else { Err(seen) })
 }
 
 /// The plan's lines by the lines of a query: one a node but `var`, and a start a fix. Once a `mu` is split there is one node

@@ -1,7 +1,7 @@
 //! Each of the 256 bytes at each place of a line, in place of the byte there and before it. What is due comes from the forms as
 //! document 01 writes them, matched byte by byte: no line is cut at its signs, and no number is worked out.
 
-use super::{Coverage, Verdict};
+use super::{outcome, Coverage, Verdict};
 use crate::random::Random;
 use crate::selfcheck::{shown, Outcome};
 use crate::text::{read_database, read_query, read_step};
@@ -110,7 +110,7 @@ impl Met {
         let seen = format!("lines on and off the form by {}", listed.join(", "));
         let [classes @ .., [others, _]] = &self.0;
         let met = *others == 0 && classes.iter().all(|[on, _]| *on > 0) && self.0.iter().all(|[_, off]| *off > 0);
-        ("each class of bytes has its places, others have none".to_string(), if met { Ok(seen) } else { Err(seen) })
+        outcome("each class of bytes has its places, others have none", met, seen)
     }
 }
 

@@ -1,7 +1,7 @@
 //! Stability by origin: what an origin says of a step's rows, what document 01's own condition accepted before, and that users of
 //! different accepted steps see one answer.
 
-use super::{ensure, every_rewrite, input, told, Coverage, Verdict, MOST};
+use super::{ensure, every_rewrite, input, outcome, told, Coverage, Verdict, MOST};
 use crate::algebra::{Columns, Pairing, Relation, Row};
 use crate::check::{check, Checked};
 use crate::meaning::{meaning, meaning_of, meaning_on_path};
@@ -128,7 +128,6 @@ pub struct Met {
 
 impl Met {
     pub fn outcomes(&self) -> Vec<Outcome> {
-        let outcome = |name: &str, met: bool, seen: String| (name.to_string(), if met { Ok(seen) } else { Err(seen) });
         let listed: Vec<String> =
             CAUSES.iter().zip(self.causes).map(|(cause, times)| format!("{cause} {times}")).collect();
         let all_but_5 = |kinds: &[u32; 7]| [1, 2, 3, 4, 6].iter().all(|kind| kinds[*kind] > 0) && kinds[5] == 0;

@@ -1,6 +1,6 @@
 //! The wall panel beside the desk, on queries of about 32 nodes and registers of about 64 rows.
 
-use super::{ensure, told, Coverage, Verdict, MOST};
+use super::{ensure, outcome, told, Coverage, Verdict, MOST};
 use crate::check::check;
 use crate::damage;
 use crate::meaning::meaning_of;
@@ -49,8 +49,7 @@ impl Met {
         let given = (1..).zip(numbers).all(|(number, times)| (*times > 0) == (number != 16));
         let full = kinds.iter().chain(&counts).all(|times| *times > 0);
         let met = given && full && workspace_entries(registers, panel::ROW_LIMIT) == panel::WORKSPACE;
-        let name = "the panel accepts every kind, gives every number but 16 and needs its workspace";
-        (name.to_string(), if met { Ok(seen) } else { Err(seen) })
+        outcome("the panel accepts every kind, gives every number but 16 and needs its workspace", met, seen)
     }
 }
 
@@ -116,16 +115,22 @@ pub fn replies(random: &mut Random, coverage: &mut Coverage) -> Verdict {
     let (database, query) = input(random);
     one_reply(random, coverage, &database, &query)?;
     for _ in 0..DAMAGED {
-        let (mut off, mut harmed) = (database.clone(), query.clone());
-        match random.below(8) {
-            0 => (off, _) = damage::database(random, &database),
-            1 => harmed.nodes[random.below(query.count as usize)] = Node::Drop(COLUMNS as u8),
-            2 => harmed = damage::spoilt(random, &query).map_or(query.clone(), |spoilt| spoilt.query),
-            _ => harmed = damage::query(random, &query),
-        }
+        let (off, harmed) = damaged(random, &database, &query);
         one_reply(random, coverage, &off, &harmed)?;
     }
     Ok(true)
+}
+
+/// A database off the form, a query off the form, one with a `mu` that gets 20, or one with edits.
+pub fn damaged(random: &mut Random, database: &Database, query: &Query) -> (Database, Query) {
+    let (mut off, mut harmed) = (database.clone(), query.clone());
+    match random.below(8) {
+        0 => (off, _) = damage::database(random, database),
+        1 => harmed.nodes[random.below(query.count as usize)] = Node::Drop(COLUMNS as u8),
+        2 => harmed = damage::spoilt(random, query).map_or(query.clone(), |spoilt| spoilt.query),
+        _ => harmed = damage::query(random, query),
+    }
+    (off, harmed)
 }
 
 /// The check, the plan and some steps.
@@ -159,7 +164,7 @@ fn one_reply(random: &mut Random, coverage: &mut Coverage, database: &Database, 
 
 /// A step, and the database that it gets.
 type Step = (Database, u32, u32);
-type Rewriting = fn(&Database, &Query, u32, u32) -> Result<Query, Refusal>;
+pub type Rewriting = fn(&Database, &Query, u32, u32) -> Result<Query, Refusal>;
 
 /// What is held after steps, each made at the desk or at the panel.
 fn held(first: &Query, steps: &[Step], mut place: impl FnMut() -> Rewriting) -> Query {

@@ -1,6 +1,6 @@
 //! Books of zero bytes, and the texts that are nearest to them.
 
-use super::{ensure, prints, told, Coverage, Verdict, MOST};
+use super::{ensure, outcome, prints, told, Coverage, Verdict, MOST};
 use crate::answer::{answer, NODES};
 use crate::check::check;
 use crate::meaning::meaning_of;
@@ -22,7 +22,7 @@ impl Met {
         let Met { answered, stepped, refused } = *self;
         let seen = format!("{answered} answers, {stepped} of them after steps, {refused} refusals with 10");
         let met = answered > 0 && stepped > 0 && refused > 0;
-        ("sheets met books of zero bytes".to_string(), if met { Ok(seen) } else { Err(seen) })
+        outcome("sheets met books of zero bytes", met, seen)
     }
 }
 

@@ -1,7 +1,7 @@
 //! The commentary that replaces another: what a `last` keeps, counted a second way, rows that replace others, a `last` over any
 //! node, and steps at it and elsewhere.
 
-use super::{ensure, input, told, Coverage, Verdict, MOST};
+use super::{ensure, input, outcome, told, Coverage, Verdict, MOST};
 use crate::algebra::{drop, Columns, Pairing, Relation, Row};
 use crate::check::{check, Checked};
 use crate::meaning::{meaning, meaning_of};
@@ -46,7 +46,7 @@ fn of_branches(term: &Term, closed: bool) -> bool {
     term.is_mu() && term.operands[0].branches().into_iter().any(|branch| branch.closed() == closed && within(branch))
 }
 
-fn has_last(query: &Query) -> bool {
+pub fn has_last(query: &Query) -> bool {
     query.lines().iter().any(|line| matches!(line, Node::Last(_)))
 }
 
@@ -128,10 +128,6 @@ impl Met {
         self.unknown[0] += unknown(after);
         self.unknown[1] += unknown(&dropped);
     }
-}
-
-fn outcome(name: &str, met: bool, seen: String) -> Outcome {
-    (name.to_string(), if met { Ok(seen) } else { Err(seen) })
 }
 
 /// A checked query; most have a `last`.

@@ -1,6 +1,6 @@
 //! Recursions typed in one piece: the split of a query, 20, and what a query with a `mu` replies beside its split.
 
-use super::{ensure, input, told, Coverage, Verdict, MOST};
+use super::{ensure, fill_past, input, outcome, told, Coverage, Verdict, MOST};
 use crate::algebra::Pairing;
 use crate::check::{check, Checked};
 use crate::damage;
@@ -122,15 +122,11 @@ impl Met {
     }
 }
 
-fn outcome(name: &str, met: bool, seen: String) -> Outcome {
-    (name.to_string(), if met { Ok(seen) } else { Err(seen) })
-}
-
 fn mus(lines: &[Node]) -> usize {
     lines.iter().filter(|line| matches!(line, Node::Mu(_))).count()
 }
 
-fn has_mu(query: &Query) -> bool {
+pub fn has_mu(query: &Query) -> bool {
     mus(query.lines()) > 0
 }
 
@@ -312,7 +308,7 @@ pub fn unsplit(random: &mut Random, coverage: &mut Coverage) -> Verdict {
     met.spoilt[cause as usize] += 1;
     met.several += u32::from(spoilt.at.len() > 1);
     let root = Term::of(spoilt.query.lines()).expect("a tree");
-    let around = |node: &u32| root.nodes().iter().any(|term| term.node == *node as usize && term.holds(place as usize));
+    let around = |node: &u32| root.at(*node as usize).is_some_and(|term| term.holds(place as usize));
     met.nested += u32::from(spoilt.at[1..].iter().any(|(_, node)| around(node)));
     in_order(&database, &spoilt.query, place)?;
     Ok(true)
@@ -374,10 +370,7 @@ pub fn damaged(random: &mut Random, coverage: &mut Coverage) -> Verdict {
 pub fn rewrites(random: &mut Random, coverage: &mut Coverage) -> Verdict {
     let (database, mut query, checked) = typed(random, 40)?;
     let lines = checked.lines();
-    // Past the count stands what the query was given with.
-    for entry in query.count as usize..query.nodes.len() {
-        query.nodes[entry] = random::node(random);
-    }
+    fill_past(random, &mut query);
     let of_split = apart(&query, &lines);
     let checked_split = check(&of_split, database.schema()).map_err(|refusal| format!("{refusal:?}"))?;
     for node in 0..=query.count + 1 {
@@ -404,11 +397,10 @@ pub fn rewrites(random: &mut Random, coverage: &mut Coverage) -> Verdict {
 fn meet_step(met: &mut Met, query: &Query, split: &[Node], kind: u32, node: u32) {
     let at = node as usize - 1;
     let root = Term::of(query.lines()).expect("a checked query");
-    let typed = root.nodes().into_iter().find(|term| term.node == at + 1).cloned();
     met.kinds[kind as usize] += u32::from(has_mu(query));
     met.kinds_moved += u32::from(split[at] != query.nodes[at]);
     // No line has moved below the node, and a `mu` stands behind it.
-    let before = split[..=at] == query.nodes[..=at] && typed.is_some_and(|term| !within(&term, Term::is_mu));
+    let before = split[..=at] == query.nodes[..=at] && root.at(at + 1).is_some_and(|term| !within(term, Term::is_mu));
     met.elsewhere += u32::from(before && has_mu(query));
 }
 

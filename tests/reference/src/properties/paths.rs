@@ -1,6 +1,6 @@
 //! Property paths: their texts and the place of 21, the sheet beside what a path links, the order of the refusals, and limits.
 
-use super::{ensure, Coverage, Verdict, MOST};
+use super::{ensure, outcome, Coverage, Verdict, MOST};
 use crate::algebra::{Columns, Relation, Row};
 use crate::answer::{FILE_BYTES, STORED_ROWS};
 use crate::check::check;
@@ -143,10 +143,6 @@ impl Met {
         self.linking += u32::from(!links.is_empty());
         self.cycles += u32::from(is_plus(path) && links.iter().any(|(from, to)| from == to));
     }
-}
-
-fn outcome(name: &str, met: bool, seen: String) -> Outcome {
-    (name.to_string(), if met { Ok(seen) } else { Err(seen) })
 }
 
 fn all_names() -> Vec<u8> {
