@@ -26,14 +26,14 @@ use Rattle.query.proofs.TermLines.{term-lines}
 use Rattle.query.proofs.CheckReply.{CheckedSplit}
 use Rattle.query.proofs.CheckedOver.{check-over-iff}
 use Rattle.query.proofs.SplitSheet.{lines-back, with-again}
-use Rattle.rewrite.specs.Rewrite.{around, rule, endedAt, replaced, withNodes, rewrite, handedBack}
+use Rattle.rewrite.specs.Rewrite.{around, rule, endedAt, replaced, withNodes, rewrite, handedBack, Step}
 use Rattle.rewrite.proofs.NodeParts.{part-narrow, around-narrow}
 use Rattle.rewrite.proofs.RuleExact.{RuleReply, allowed, rule-exact}
 use Rattle.rewrite.proofs.RewriteExact.{Accepted}
 use Rattle.rewrite.proofs.Held.{now, step-checked}
 use Rattle.rewrite.proofs.SplitSheet.{rule-size}
 use Rattle.rewrite.proofs.Inside.{Inside, puts, own-lines, within-lines, puts-lines, inside-found, found-inside}
-use Rattle.branches.specs.Branches.{splitLines, Apart}
+use Rattle.branches.specs.Branches.{splitLines, Apart, stepped, Commute}
 use Rattle.branches.proofs.Beside.{Clear, first, last, same-ended, around-beside}
 use Rattle.branches.proofs.SetsCommute.{sets-commute}
 use Rattle.branches.proofs.Stretches.{apart-sym, apart-clear}
@@ -89,14 +89,9 @@ same-verdict : (c : Reply Writes) (n : ℕ) (q q′ : Query) (ns ns′ : List No
 same-verdict (refused r) n q q′ ns ns′ = refl
 same-verdict (accepted x) n q q′ ns ns′ = refl
 
--- the sheet after a step, and two steps that commute, made with one limit
-abbrev pub steppedAt : ℕ → ℕ → Query → Database → List ℕ → ℕ → ℕ → Query
-steppedAt w limit q d store k n = handedBack q (rewrite w limit q d store k n)
-
-pub record CommuteAt (w limit : ℕ) (q : Query) (d : Database) (store : List ℕ) (k n k′ n′ : ℕ) : Type 0 where
-  pub first-after : verdict (rewrite w limit (steppedAt w limit q d store k′ n′) d store k n) ≡ verdict (rewrite w limit q d store k n)
-  pub second-after : verdict (rewrite w limit (steppedAt w limit q d store k n) d store k′ n′) ≡ verdict (rewrite w limit q d store k′ n′)
-  pub same-sheet : steppedAt w limit (steppedAt w limit q d store k n) d store k′ n′ ≡ steppedAt w limit (steppedAt w limit q d store k′ n′) d store k n
+-- a step by its numbers
+abbrev pub stepAt : ℕ → Database → List ℕ → ℕ → ℕ → Step
+stepAt limit d store k n = record { limit = limit; database = d; store = store; kind = k; node = n }
 
 module _ (w limit : ℕ) (d : Database) (store : List ℕ) where
   abbrev G : Schema
@@ -147,6 +142,7 @@ module _ (w limit : ℕ) (d : Database) (store : List ℕ) where
       pub same-columns : (C : Cols) → cols G C b ≡ cols G C a
       pub checked : checkOver w limit (withNodes q (replaced (lines t) n a b)) d store ≡ accepted (puts here b)
 
+    -- the rule's lines read again to a checked term
     record Read (n : ℕ) (a b : Term) : Type 0 where
       term : Term
       reads : lines term ≡ replaced (lines t) n a b
@@ -271,13 +267,13 @@ module _ (w limit : ℕ) (d : Database) (store : List ℕ) where
         let clear = clear-nodes n n′ a a′ (inside-found (l .here)) (inside-found (l′ .here)) x in
         both-sheet n n′ a b a′ b′ l l′ ∙ ap (withNodes q) (same-lines n n′ a b a′ b′ l l′ clear) ∙ sym (both-sheet n′ n a′ b′ a b l′ l)
 
-    pub checked-commute : (k n k′ n′ : ℕ) → Apart q n n′ → CommuteAt w limit q d store k n k′ n′
+    pub checked-commute : (k n k′ n′ : ℕ) → Apart q n n′ → Commute w q (stepAt limit d store k n) (stepAt limit d store k′ n′)
     checked-commute k n k′ n′ x =
         let ns = lines t in
         let s = step-applied q t over k n in
         let s′ = step-applied q t over k′ n′ in
-        let l : steppedAt w limit q d store k n ≡ sheetAfter q ns n (core k n) = ap (handedBack q) s in
-        let l′ : steppedAt w limit q d store k′ n′ ≡ sheetAfter q ns n′ (core k′ n′) = ap (handedBack q) s′ in
+        let l : stepped w q (stepAt limit d store k n) ≡ sheetAfter q ns n (core k n) = ap (handedBack q) s in
+        let l′ : stepped w q (stepAt limit d store k′ n′) ≡ sheetAfter q ns n′ (core k′ n′) = ap (handedBack q) s′ in
         let f = ap (λ (p : Query). rewrite w limit p d store k′ n′) l ∙ after-any k n k′ n′ x in
         let f′ = ap (λ (p : Query). rewrite w limit p d store k n) l′ ∙ after-any k′ n′ k n (apart-sym x) in
         record {

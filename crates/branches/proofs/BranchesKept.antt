@@ -16,9 +16,9 @@ use Rattle.query.specs.Lines.{lines}
 use Rattle.query.specs.Check.{checkOver}
 use Rattle.rewrite.specs.Rewrite.{endedAt, replaced, withNodes, handedBack}
 use Rattle.rewrite.proofs.Inside.{found-ended, ended-found, Inside, puts, puts-lines, puts-size, inside-found, ended-over}
-use Rattle.branches.specs.Branches.{splitLines, Stretch, Apart}
+use Rattle.branches.specs.Branches.{splitLines, Stretch, Apart, stepped}
 use Rattle.branches.proofs.Stretches.{index, index-place, stretch-inside, apart-under}
-use Rattle.branches.proofs.BranchSteps.{split-lines, steppedAt, Writes, core, hand, step-applied, Leaves, leaves, other-ended}
+use Rattle.branches.proofs.BranchSteps.{split-lines, stepAt, Writes, core, hand, step-applied, Leaves, leaves, other-ended}
 use Rattle.branches.proofs.GivenSteps.{unchecked-stays}
 
 -- the stretch of m is the same in both
@@ -78,7 +78,7 @@ module _ (w limit : ℕ) (d : Database) (store : List ℕ) (q : Query) (m n : �
           (by-ended e i, by-ended (sym e) i);
     }
 
-  pub branches-kept : (k : ℕ) → BranchesKept (steppedAt w limit q d store k n)
+  pub branches-kept : (k : ℕ) → BranchesKept (stepped w q (stepAt limit d store k n))
   branches-kept k = by-check (checkOver w limit q d store) refl
     where
       by-core : (t : Term) (over : checkOver w limit q d store ≡ accepted t) (c : Reply Writes) → core w limit d store q t over k n ≡ c
@@ -86,7 +86,7 @@ module _ (w limit : ℕ) (d : Database) (store : List ℕ) (q : Query) (m n : �
       by-core t over (refused r) e = stayed
       by-core t over (accepted (a, b)) e = moved t over a b (leaves w limit d store q t over k n a b e)
 
-      by-check : (c : Reply Term) → checkOver w limit q d store ≡ c → BranchesKept (steppedAt w limit q d store k n)
+      by-check : (c : Reply Term) → checkOver w limit q d store ≡ c → BranchesKept (stepped w q (stepAt limit d store k n))
       by-check (refused r) e = subst BranchesKept (sym (unchecked-stays w limit q d store r e k n)) stayed
       by-check (accepted t) e =
           subst BranchesKept (ap (handedBack q) (sym (step-applied w limit d store q t e k n))) (by-core t e (core w limit d store q t e k n) refl)

@@ -6,19 +6,19 @@ use Prim.Native.Nat.{ℕ, _≤_}
 use native.Mathlib.Omega.{arith}
 use native.Mathlib.Decide.{decLe}
 use lib.Dec.{leb}
-use borrow.Author.Tests.{le-leb, lt-leb}
+use borrow.Author.Tests.{lt-leb}
 use Rattle.algebra.specs.Term.{Term}
 use Rattle.database.specs.declared.Database.{Database}
 use Rattle.database.specs.declared.Refusal.{Refusal}
 use Rattle.database.specs.Refusals.{Reply, refused, accepted, verdict}
 use Rattle.query.specs.declared.Query.{Query}
 use Rattle.query.specs.Check.{checkOver}
-use Rattle.query.proofs.NodeLimits.{accepted-within}
+use Rattle.query.proofs.NodeLimits.{both-within, accepted-within}
 use Rattle.rewrite.specs.Rewrite.{rewrite, handedBack, Step, replied}
 use Rattle.rewrite.proofs.Held.{checked-first}
 use Rattle.rewrite.proofs.NodeLimits.{rewrite-agree, step-count}
 use Rattle.branches.specs.Branches.{Apart, stepped, Given, Commute}
-use Rattle.branches.proofs.BranchSteps.{steppedAt, CommuteAt, checked-commute}
+use Rattle.branches.proofs.BranchSteps.{stepAt, checked-commute}
 
 module _ (w limit : ℕ) (q : Query) (d : Database) (store : List ℕ) where
   -- a sheet that is not checked is handed back by every step, with the same refusal
@@ -26,31 +26,31 @@ module _ (w limit : ℕ) (q : Query) (d : Database) (store : List ℕ) where
   unfolding rewrite
   unchecked r e k n = rw e
 
-  pub unchecked-stays : (r : Refusal) → checkOver w limit q d store ≡ refused r → (k n : ℕ) → steppedAt w limit q d store k n ≡ q
+  pub unchecked-stays : (r : Refusal) → checkOver w limit q d store ≡ refused r → (k n : ℕ) → stepped w q (stepAt limit d store k n) ≡ q
   unchecked-stays r e k n = ap (handedBack q) (unchecked r e k n)
 
-  unchecked-commute : (r : Refusal) → checkOver w limit q d store ≡ refused r → (k n k′ n′ : ℕ) → CommuteAt w limit q d store k n k′ n′
+  unchecked-commute : (r : Refusal) → checkOver w limit q d store ≡ refused r → (k n k′ n′ : ℕ) → Commute w q (stepAt limit d store k n) (stepAt limit d store k′ n′)
   unchecked-commute r e k n k′ n′ =
       let l = unchecked-stays r e k n in
       let l′ = unchecked-stays r e k′ n′ in
       record {
         first-after = ap (λ (p : Query). verdict (rewrite w limit p d store k n)) l′;
         second-after = ap (λ (p : Query). verdict (rewrite w limit p d store k′ n′)) l;
-        same-sheet = ap (λ (p : Query). steppedAt w limit p d store k′ n′) l ∙ l′ ∙ sym l ∙ ap (λ (p : Query). steppedAt w limit p d store k n) (sym l′);
+        same-sheet = ap (λ (p : Query). stepped w p (stepAt limit d store k′ n′)) l ∙ l′ ∙ sym l ∙ ap (λ (p : Query). stepped w p (stepAt limit d store k n)) (sym l′);
       }
 
   -- two steps with one limit
-  commute-at : (k n k′ n′ : ℕ) → Apart q n n′ → CommuteAt w limit q d store k n k′ n′
+  commute-at : (k n k′ n′ : ℕ) → Apart q n n′ → Commute w q (stepAt limit d store k n) (stepAt limit d store k′ n′)
   commute-at k n k′ n′ x = by-check (checkOver w limit q d store) refl
     where
-      by-check : (c : Reply Term) → checkOver w limit q d store ≡ c → CommuteAt w limit q d store k n k′ n′
+      by-check : (c : Reply Term) → checkOver w limit q d store ≡ c → Commute w q (stepAt limit d store k n) (stepAt limit d store k′ n′)
       by-check (refused r) e = unchecked-commute r e k n k′ n′
       by-check (accepted t) e = checked-commute w limit d store q t e k n k′ n′ x
 
 -- limits with which a sheet is taken alike
 agree : (n limit limit′ : ℕ) → (n ≤ limit → n ≤ limit′) → (n ≤ limit′ → n ≤ limit) → leb n limit ≡ leb n limit′
 agree n limit limit′ f g = elim (decLe n limit) [
-  | yes h ↦ le-leb n limit h ∙ sym (le-leb n limit′ (f h))
+  | yes h ↦ both-within n limit limit′ h (f h)
   | no h ↦ lt-leb n limit (omega arith) ∙ sym (lt-leb n limit′ (elim (decLe n limit′) [ yes i ↦ absurd (h (g i)) | no i ↦ omega arith ]))
 ]
 
@@ -77,15 +77,15 @@ module _ (w limit : ℕ) (d : Database) (store : List ℕ) where
 
   module _ (q : Query) (s s′ : Step) (g : Given limit d store q s) (g′ : Given limit d store q s′) where
     -- the second after the first
-    then : replied w (stepped w q s) s′ ≡ rewrite w limit (steppedAt w limit q d store (s .kind) (s .node)) d store (s′ .kind) (s′ .node)
+    then : replied w (stepped w q s) s′ ≡ rewrite w limit (stepped w q (stepAt limit d store (s .kind) (s .node))) d store (s′ .kind) (s′ .node)
     then =
         as-given (stepped w q s) s′ (given-after q s s′ g g′)
         ∙ ap (λ (r : Reply Query). rewrite w limit (handedBack q r) d store (s′ .kind) (s′ .node)) (as-given q s g)
 
     then-sheet : stepped w (stepped w q s) s′
-        ≡ steppedAt w limit (steppedAt w limit q d store (s .kind) (s .node)) d store (s′ .kind) (s′ .node)
+        ≡ stepped w (stepped w q (stepAt limit d store (s .kind) (s .node))) (stepAt limit d store (s′ .kind) (s′ .node))
     then-sheet = ap (λ (r : Reply Query). handedBack (stepped w q s) r) then
-        ∙ ap (λ (r : Reply Query). handedBack (handedBack q r) (rewrite w limit (steppedAt w limit q d store (s .kind) (s .node)) d store (s′ .kind) (s′ .node))) (as-given q s g)
+        ∙ ap (λ (r : Reply Query). handedBack (handedBack q r) (rewrite w limit (stepped w q (stepAt limit d store (s .kind) (s .node))) d store (s′ .kind) (s′ .node))) (as-given q s g)
 
   pub given-commute : (q : Query) (s s′ : Step) → Given limit d store q s → Given limit d store q s′ → Apart q (s .node) (s′ .node) → Commute w q s s′
   given-commute q s s′ g g′ x =

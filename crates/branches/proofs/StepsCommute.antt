@@ -1,7 +1,7 @@
 -- Document 02's "Two editors on two branches": "For two steps of kinds 1 to 6, both given the same book, at two different nodes of which neither lies under
 -- the other, … either is accepted after the other exactly if it was before, with the same refusal otherwise, and … both orders end in the same sheet."
 -- The query is any value, checked or not, and the book any; the nodes are any numbers. The steps may be made at two places, if both take the sheet or neither does.
--- A kind 0 is refused with 12, as every kind that no rule has.
+-- A kind 0 is refused with 12, as every kind that no rule has; since those above 6 are so too today, the proof needs neither bound.
 use mathlib.Core.List.{List}
 use Prim.Native.Nat.{ℕ, _≤_}
 use Rattle.database.specs.declared.Database.{Database}

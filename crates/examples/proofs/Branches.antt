@@ -1,7 +1,7 @@
 -- The examples of two editors hold: the hypotheses of `steps-commute` can be met, and without them it fails.
 use mathlib.Core.Path.{_≡_, refl, ap, sym, _∙_}
 use mathlib.Core.Option.{some}
-use mathlib.Core.List.{List, map}
+use mathlib.Core.List.{[], _∷_, map}
 use Prim.Native.Nat.{ℕ, _≤_}
 use native.Mathlib.Omega.{arith}
 use Rattle.laws.specs.Lists.{every, any, sift, all, lowest, tabulate}
@@ -22,9 +22,10 @@ use Rattle.query.specs.Lines.{nodeLimit, checkForm, lines, push, read, termOf}
 use Rattle.query.specs.Check.{splitFaults, splitTerm, unless, firstPass, secondPass, faults, checkQuery, checkOver}
 use Rattle.text.specs.Lines.{filled}
 use Rattle.text.specs.Texts.{queryValue}
-use Rattle.rewrite.specs.Rewrite.{around, rule, endedAt, rewrite}
-use Rattle.branches.specs.Branches.{splitLines, Under, Apart, Given, Commute}
+use Rattle.rewrite.specs.Rewrite.{around, rule, endedAt, rewrite, held}
+use Rattle.branches.specs.Branches.{splitLines, Under, Apart, Given, Commute, OnBranch, nothing, from-first, from-second}
 use Rattle.branches.proofs.StepsCommute.{steps-commute}
+use Rattle.branches.proofs.Interleavings.{interleavings-agree}
 use Rattle.machine.specs.Limits.{panelLimits}
 use Rattle.examples.specs.Branches.{book, store, made, Turns, orders, turns, nested, halves, filters, onlyDesk}
 
@@ -72,6 +73,32 @@ pub halves-commute : Commute columns query (made nodeLimit (1, 11)) (made (panel
 halves-commute =
     steps-commute columns nodeLimit book store query (made nodeLimit (1, 11)) (made (panelLimits .nodes) (1, 22))
     (given nodeLimit (1, 11) (omega arith)) (given (panelLimits .nodes) (1, 22) (omega arith)) (omega arith) (omega arith) halves-apart
+
+-- the left half
+abbrev left : Term
+left =
+    T.filter (Eq 0 1) (T.fix 1 (T.table 0) (T.drop 2 (T.pair Join (T.drop 1 (T.copy 1 2 (T.var 1))) (T.drop 0 (T.copy 0 2 (T.table 0))))))
+
+left-ends : endedAt (splitLines query) 11 ≡ some left
+unfolding every any size free branches unitedFrom split lines push read termOf splitFaults splitTerm unless endedAt mathlib.Core.List.flatMap
+left-ends = refl
+
+left-size : size left ≡ 11
+unfolding size
+left-size = refl
+
+on-left : (n : ℕ) → 1 ≤ n → n ≤ 11 → OnBranch query 11 (made nodeLimit (1, n))
+on-left n h k = record { kind = omega arith; node = record { node = left; ends = left-ends; from = omega (arith, left-size); to = k } }
+
+-- on the left a step under the half's node and one at it, on the right one: the right editor's step between the others, or behind them
+pub halves-interleave : held columns query (made nodeLimit (1, 10) ∷ made (panelLimits .nodes) (1, 22) ∷ made nodeLimit (1, 11) ∷ [])
+    ≡ held columns query (made nodeLimit (1, 10) ∷ made nodeLimit (1, 11) ∷ made (panelLimits .nodes) (1, 22) ∷ [])
+halves-interleave =
+    interleavings-agree columns nodeLimit book store query 11 22 halves-apart
+    (made nodeLimit (1, 10) ∷ made nodeLimit (1, 11) ∷ []) (made (panelLimits .nodes) (1, 22) ∷ [])
+    ((given nodeLimit (1, 10) (omega arith), on-left 10 (omega arith) (omega arith)), ((given nodeLimit (1, 11) (omega arith), on-left 11 (omega arith) (omega arith)), tt))
+    ((given (panelLimits .nodes) (1, 22) (omega arith), record { kind = omega arith; node = record { node = right; ends = right-ends; from = omega (arith, right-size); to = omega arith } }), tt)
+    _ _ (from-first (from-second (from-first nothing))) (from-first (from-first (from-second nothing)))
 
 -- one filter over the other
 abbrev twoFilters : Query
