@@ -32,6 +32,7 @@ pub mod Sound
 pub mod Distinct
 pub mod Alike
 pub mod Swap
+pub mod PastRules
 pub mod Conditions
 pub mod Sizes
 pub mod FreeOnly

@@ -7,7 +7,7 @@ use lib.ListN.{length, take, drop, set, length-append, length-drop, length-map, 
 use lib.Seq.{paste, drop-at, length-take-le}
 use Rattle.laws.proofs.Passes.{take-map}
 use Rattle.rewrite.proofs.Splices.{write-some, write-one}
-use Rattle.rewrite.specs.Splices.{exchanged}
+use Rattle.rewrite.specs.Splices.{exchanged, inserted}
 
 -- nothing is written at first
 nothing : {A : Type 0} (at : ℕ) (l : List A) → l ≡ take at l ++ drop at l
@@ -29,6 +29,19 @@ exchange-writes {A} a b c l h i j =
     let end : a + (c - b) + (b - a) ≡ c = omega arith in
     ap (λ (m : List A). paste m (a + (c - b)) (drop a l) (b - a)) first ∙ write-some (p ++ x) l (drop a l) (a + (c - b)) (b - a) long
     ∙ ap (λ (n : ℕ). ((p ++ x) ++ y) ++ drop n l) end ∙ append-assoc (p ++ x) y (drop c l) ∙ append-assoc p x (y ++ drop c l)
+
+-- the line first, then those from its place on
+pub insert-writes : {A : Type 0} (a n : ℕ) (x : A) (l : List A) → a ≤ n → n < length l → paste (set l a x) (a + 1) (drop a l) (n - a) ≡ inserted a n x l
+insert-writes {A} a n x l h i =
+    let p = take a l in
+    let q = p ++ (x ∷ []) in
+    let y = take (n - a) (drop a l) in
+    let np : length p ≡ a = length-take-le a l (omega arith) in
+    let first : set l a x ≡ q ++ drop (a + 1) l = ap (λ (m : List A). set m a x) (nothing a l) ∙ write-one p l x a np (omega arith) in
+    let long : length q ≡ a + 1 = length-append p _ ∙ ap (λ (k : ℕ). k + 1) np in
+    let end : a + 1 + (n - a) ≡ n + 1 = omega arith in
+    ap (λ (m : List A). paste m (a + 1) (drop a l) (n - a)) first ∙ write-some q l (drop a l) (a + 1) (n - a) long
+    ∙ ap (λ (k : ℕ). (q ++ y) ++ drop k l) end ∙ append-assoc q y (drop (n + 1) l) ∙ append-assoc p (x ∷ []) (y ++ drop (n + 1) l)
 
 -- rule 6, from the left step's first line on; f renames a line
 module _ {A : Type 0} (f : A → A) (join union fix : A) (s i m j : ℕ) (l : List A) (h₁ : s ≤ i) (h₂ : i < m) (h₃ : m < j) (h₄ : j < length l) where

@@ -17,6 +17,10 @@ withLines q l = record { count = q .count; lines = l }
 abbrev pub exchanged : {A : Type 0} → ℕ → ℕ → ℕ → List A → List A
 exchanged a b c l = take a l ++ (take (c - b) (drop b l) ++ (take (b - a) (drop a l) ++ drop c l))
 
+-- one element more at s among the first n; what stands past index n stays: kind 7 puts its filter's line behind the left operand
+abbrev pub inserted : {A : Type 0} → ℕ → ℕ → A → List A → List A
+inserted s n x l = take s l ++ (x ∷ (take (n - s) (drop s l) ++ drop (n + 1) l))
+
 -- "Each `var` of the right fix takes the left one's number."
 abbrev pub renamedLine : ℕ → ℕ → Line → Line
 renamedLine u v l = line (renameLine u v (l .node))
