@@ -1,7 +1,7 @@
 // "Second pass, lowest node: 9 or 10."
-use algebra::Condition;
 use algebra::Pairing;
 use column_sets::has_column;
+use column_sets::names_held;
 use column_sets::same_columns;
 use database::Database;
 use database::Refusal;
@@ -18,8 +18,6 @@ ghost use mathlib.Core.Path.{_≡_};
 ghost use mathlib.Core.Bool.{not, _&&_};
 ghost use Prim.Native.Nat.{_<_};
 ghost use lib.ListN.{take};
-ghost use Rattle.laws.specs.Lists.{every};
-ghost use Rattle.algebra.specs.Columns.{named};
 ghost use Rattle.relation.specs.Rows.{columns, colsOf};
 ghost use Rattle.database.specs.Stored.{schema};
 ghost use Rattle.database.specs.Refusals.{verdict, noFault};
@@ -36,28 +34,6 @@ fn sides_agree(pairing: Pairing, left: Columns, right: Columns) -> bool
         Pairing::Union => same_columns(left, right),
         Pairing::Join => true,
         Pairing::Except => true,
-    }
-}
-
-fn has_both(cols: Columns, c: u32, d: u32) -> bool
-    ensures { λ r. ⌜ r ≡ colsOf columns cols c && colsOf columns cols d ⌝ }
-{
-    if has_column(cols, c as usize) {
-        has_column(cols, d as usize)
-    } else {
-        false
-    }
-}
-
-// Whether the columns that a filter names are there.
-fn names_held(condition: Condition, cols: Columns) -> bool
-    ensures { λ r. ⌜ r ≡ every (colsOf columns cols) (named condition) ⌝ }
-{
-    match condition {
-        Condition::Eq(c, _) => has_column(cols, c as usize),
-        Condition::Ne(c, _) => has_column(cols, c as usize),
-        Condition::Max(c, _) => has_column(cols, c as usize),
-        Condition::Same(c, d) => has_both(cols, c, d),
     }
 }
 

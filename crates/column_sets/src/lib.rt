@@ -1,10 +1,11 @@
 // Sets of columns.
+use algebra::Condition;
 use relation::COLUMNS;
 use relation::Columns;
 ghost use mathlib.Core.Path.{_≡_};
-ghost use mathlib.Core.Bool.{not};
-ghost use Rattle.laws.specs.Lists.{all};
-ghost use Rattle.algebra.specs.Columns.{noCols, with, without, both};
+ghost use mathlib.Core.Bool.{not, _&&_};
+ghost use Rattle.laws.specs.Lists.{every, all};
+ghost use Rattle.algebra.specs.Columns.{named, noCols, with, without, both};
 ghost use Rattle.relation.specs.Rows.{columns, colsOf, columnsOf};
 ghost use Rattle.relation.specs.Columnwise.{sameAt};
 
@@ -96,4 +97,26 @@ pub fn any_column(cols: Columns) -> bool
         }
     }
     false
+}
+
+fn has_both(cols: Columns, c: u32, d: u32) -> bool
+    ensures { λ r. ⌜ r ≡ colsOf columns cols c && colsOf columns cols d ⌝ }
+{
+    if has_column(cols, c as usize) {
+        has_column(cols, d as usize)
+    } else {
+        false
+    }
+}
+
+// Whether the columns that a filter names are in the set.
+pub fn names_held(condition: Condition, cols: Columns) -> bool
+    ensures { λ r. ⌜ r ≡ every (colsOf columns cols) (named condition) ⌝ }
+{
+    match condition {
+        Condition::Eq(c, _) => has_column(cols, c as usize),
+        Condition::Ne(c, _) => has_column(cols, c as usize),
+        Condition::Max(c, _) => has_column(cols, c as usize),
+        Condition::Same(c, d) => has_both(cols, c, d),
+    }
 }

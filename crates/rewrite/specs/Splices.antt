@@ -3,6 +3,7 @@ use mathlib.Core.List.{List, _∷_, _++_, map}
 use Prim.Native.Nat.{ℕ, _+_, _-_}
 use lib.ListN.{take, drop}
 use Rattle.algebra.specs.declared.Pairing.the-variants.{Union, Join}
+use Rattle.query.specs.declared.Node.{Node}
 use Rattle.query.specs.declared.Node.the-variants.{Pair, Fix}
 use Rattle.query.specs.declared.Line.{Line}
 use Rattle.query.specs.declared.Query.{Query}
@@ -20,6 +21,10 @@ exchanged a b c l = take a l ++ (take (c - b) (drop b l) ++ (take (b - a) (drop 
 -- one element more at s among the first n; what stands past index n stays: kind 7 puts its filter's line behind the left operand
 abbrev pub inserted : {A : Type 0} → ℕ → ℕ → A → List A → List A
 inserted s n x l = take s l ++ (x ∷ (take (n - s) (drop s l) ++ drop (n + 1) l))
+
+-- the query with one line more
+abbrev pub withInserted : Query → ℕ → Node → Query
+withInserted q s x = record { count = q .count + 1; lines = inserted s (q .count) (line x) (q .lines) }
 
 -- "Each `var` of the right fix takes the left one's number."
 abbrev pub renamedLine : ℕ → ℕ → Line → Line

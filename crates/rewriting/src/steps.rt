@@ -1,11 +1,11 @@
 // "Steps test the book and the sheet as a run does, then 12 to 15 in order."
-use super::write::refuse;
 use super::write::rewrite_checked;
 use checking::check;
 use database::Database;
 use database::Verdict;
 use query::Query;
 use rewrite::Rewritten;
+use rewrite::refuse;
 ghost use mathlib.Core.Path.{_≡_};
 ghost use Prim.Native.Nat.{min};
 ghost use Rattle.relation.specs.Rows.{columns};

@@ -10,11 +10,11 @@ use query::nodes::node_at;
 use query::nodes::preceding;
 use rewrite::Rewritten;
 use rewrite::nodes::fix_number;
+use rewrite::refuse;
 use rewrite::splice::exchange;
 use rewrite::splice::merge;
 ghost use mathlib.Core.Path.{_≡_};
 ghost use Prim.Native.Nat.{_<_, _≤_};
-ghost use Rattle.database.specs.Refusals.{refused};
 ghost use Rattle.query.specs.Lines.{nodeLimit};
 ghost use Rattle.rewrite.specs.Places.{StartsLow};
 ghost use Rattle.rewrite.specs.Rewrite.{rewritten};
@@ -54,16 +54,6 @@ fn written(query: Query, facts: Facts, i: usize, found: Found) -> Query
         Found::FixExcept(fix, _) => moved(query, facts, i, fix),
         Found::DropFix(_, fix) => moved(query, facts, i, fix),
         Found::FixFix(left, right) => united(query, facts, i, left, right),
-    }
-}
-
-// "Refusals hand back the sheet as given."
-pub fn refuse(query: Query, refusal: Refusal) -> Rewritten
-    ensures { λ r. ⌜ r ≡ rewritten query (refused refusal) ⌝ }
-{
-    Rewritten {
-        query,
-        verdict: Verdict::Refused(refusal),
     }
 }
 

@@ -1,4 +1,4 @@
--- `second_pass::names_held` tests the columns that the condition names.
+-- `names_held` tests the columns that the condition names.
 use borrow.Author.Needs.{needs}
 use mathlib.Core.Path.{ap, sym, _∙_}
 use mathlib.Core.Bool.{Bool, _&&_}
@@ -8,8 +8,8 @@ use Rattle.algebra.specs.declared.Condition.{Condition}
 use Rattle.algebra.specs.Columns.{named}
 use Rattle.relation.specs.declared.Columns.{Columns}
 use Rattle.relation.specs.Rows.{columns, colsOf}
-use Rattle.checking.proofs.second_pass.names_held.Statement.{statement}
-use Rattle.checking.proofs.second_pass.names_held.Tie as tie
+use Rattle.column_sets.proofs.names_held.Statement.{statement}
+use Rattle.column_sets.proofs.names_held.Tie as tie
 
 abbrev allHeld : Columns → Condition → Bool
 allHeld cols f = every (colsOf columns cols) (named f)

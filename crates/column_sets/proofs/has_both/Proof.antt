@@ -3,8 +3,8 @@ use borrow.Author.Needs.{needs}
 use mathlib.Core.Path.{ap, sym, _∙_}
 use mathlib.Core.Bool.{Bool, _&&_}
 use Rattle.relation.specs.Rows.{columns, colsOf}
-use Rattle.checking.proofs.second_pass.has_both.Statement.{statement}
-use Rattle.checking.proofs.second_pass.has_both.Tie as tie
+use Rattle.column_sets.proofs.has_both.Statement.{statement}
+use Rattle.column_sets.proofs.has_both.Tie as tie
 
 returns : tie.Need-returns
 returns c =
