@@ -1,6 +1,7 @@
 pub mod Fitting
 pub mod Replies
 pub mod Standing
+pub mod AtNode
 pub mod Loops
 pub mod Matched
 pub mod Asked

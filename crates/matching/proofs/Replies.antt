@@ -12,10 +12,9 @@ use Rattle.database.specs.declared.Verdict.{Verdict}
 use Rattle.database.specs.declared.Verdict.the-variants.{Accepted, Refused}
 use Rattle.database.specs.Refusals.{Reply, refused, accepted, require, verdict, noFault, _>>=_}
 use Rattle.query.specs.declared.Query.{Query}
-use Rattle.query.specs.declared.Facts.{Facts}
 use Rattle.query.specs.Check.{unless}
 use Rattle.query.specs.Passes.{firstOf}
-use Rattle.matching.specs.Found.{foundAt, replyTo, stepReply}
+use Rattle.matching.specs.Found.{atNode}
 
 -- the tests in their order: f: something is found; s, u, c: 13, 14 and 15 are met
 abbrev pub tests : Bool → Bool → Bool → Bool → Reply (Unit {0})
@@ -48,21 +47,19 @@ pub judged-accepted : {A : Type 0} (x : Reply (Unit {0})) (a : A) → verdict x 
 judged-accepted (refused b) a e = let z : _≡_ {A = ℕ} 0 1 = cc in absurd (omega arith)
 judged-accepted (accepted _) a e = refl
 
-module _ (q : Query) (facts : Facts) (k n : ℕ) where
-  abbrev at : Reply Query
-  at = replyTo q facts (n - 1) (foundAt q facts k (n - 1))
-
+-- the reply at node n: none before the first, none past the last
+module _ (q : Query) (reply : ℕ → Reply Query) (n : ℕ) where
   abbrev within : Bool → Reply Query
-  within b = if b then at else refused NoMatch
+  within b = if b then reply (n - 1) else refused NoMatch
 
-  pub no-node : n ≡ 0 → refused NoMatch ≡ stepReply q facts k n
+  pub no-node : n ≡ 0 → refused NoMatch ≡ atNode q reply n
   no-node e = ap (λ (b : Bool). if b then refused NoMatch else within (leb n (q .count))) (sym (eq-eqb n 0 e))
 
-  some-node : (n ≡ 0 → ⊥) → within (leb n (q .count)) ≡ stepReply q facts k n
+  some-node : (n ≡ 0 → ⊥) → within (leb n (q .count)) ≡ atNode q reply n
   some-node h = ap (λ (b : Bool). if b then refused NoMatch else within (leb n (q .count))) (sym (ne-eqb n 0 h))
 
-  pub past-node : (n ≡ 0 → ⊥) → q .count < n → refused NoMatch ≡ stepReply q facts k n
+  pub past-node : (n ≡ 0 → ⊥) → q .count < n → refused NoMatch ≡ atNode q reply n
   past-node h i = ap within (sym (lt-leb n (q .count) i)) ∙ some-node h
 
-  pub at-node : (n ≡ 0 → ⊥) → n ≤ q .count → at ≡ stepReply q facts k n
+  pub at-node : (n ≡ 0 → ⊥) → n ≤ q .count → reply (n - 1) ≡ atNode q reply n
   at-node h i = ap within (sym (le-leb n (q .count) i)) ∙ some-node h

@@ -7,7 +7,6 @@ use Prim.Native.Nat.{ℕ, _+_, _-_, _≤_, _<_}
 use native.Mathlib.Omega.{arith}
 use native.Mathlib.Decide.{decLt}
 use lib.ListN.{length, List·getD-eq-default}
-use borrow.Author.Tests.{le-leb, lt-leb}
 use Rattle.laws.proofs.Tests.{true-false}
 use Rattle.algebra.specs.Term.{Term, table, var, fact, pair, filter, copy, drop, last as latest, fix, mu}
 use Rattle.algebra.specs.Columns.{Cols, noCols, Schema, size}
@@ -22,20 +21,19 @@ use Rattle.query.specs.declared.Node.{Node}
 use Rattle.query.specs.declared.Node.the-variants.{Table}
 use Rattle.query.specs.declared.Query.{Query}
 use Rattle.query.specs.declared.Facts.{Facts}
-use Rattle.query.specs.Lines.{nodeLimit, nodes, lines, read}
+use Rattle.query.specs.Lines.{nodeLimit, nodes, lines}
 use Rattle.query.specs.Facts.{visits, factsOf}
 use Rattle.query.specs.Check.{checkOver}
 use Rattle.query.specs.Shape.{root, hasStep}
 use Rattle.query.proofs.CheckReply.{Checked}
 use Rattle.query.proofs.CheckedOver.{check-over-iff}
 use Rattle.query.proofs.CheckedTerms.{own-checked}
-use Rattle.query.proofs.Reading.{size-lines}
 use Rattle.query.proofs.Starts.{size-pos}
 use Rattle.rewrite.specs.Places.{lineAt, startAt, last}
-use Rattle.rewrite.specs.Rewrite.{around, rule, top, endedAt, replaced, withNodes, rewrite}
+use Rattle.rewrite.specs.Rewrite.{around, rule, endedAt, replaced, withNodes, rewrite}
 use Rattle.matching.specs.Found.{foundAt, Placed, stableAt, unusedAt, writtenAt, replyTo, stepReply}
-use Rattle.matching.proofs.Replies.{no-node, past-node, at-node}
-use Rattle.matching.proofs.Standing.{Here, NodeOf, node-of, here-all, here-reads}
+use Rattle.matching.proofs.Standing.{Here}
+use Rattle.matching.proofs.AtNode.{node-at, replacedBy, replyOf, step-at-node}
 use Rattle.matching.proofs.Loops.{low, here-told, step-start}
 use Rattle.matching.proofs.Matched.{foundOf, found, found-at}
 use Rattle.matching.proofs.Asked.{match-found, stable-is, unused-is, closed-is}
@@ -70,13 +68,6 @@ module _ (d : Database) (limit : ℕ) (q : Query) (t : Term) (checked : Checked 
   abbrev facts : Facts
   facts = factsOf G (visits G noCols [] 0 t)
 
-  sized : size t ≡ q .count
-  sized = sym (size-lines t) ∙ ap length (sym (checked .written)) ∙ counted
-
-  -- node n
-  node : (n : ℕ) → 1 ≤ n → n ≤ q .count → NodeOf d q t (checked .written) noCols 0 t n
-  node n h k = let e = sized in node-of d q t (checked .written) t noCols 0 n h (omega arith) (here-all d q t (checked .written))
-
   -- of a fix, its step starts behind its seed
   fix-seeded : {C : Cols} {s : ℕ} (a : Term) → Here d q t (checked .written) C s a → hasStep (root a) ≡ true → startAt facts (last s a) < startAt facts (last s a - 1)
   fix-seeded (table x) h e = true-false (sym e)
@@ -100,7 +91,7 @@ module _ (d : Database) (limit : ℕ) (q : Query) (t : Term) (checked : Checked 
       seeded : (y : ℕ) → hasStep (lineAt q y) ≡ true → startAt facts y < startAt facts (y - 1)
       seeded y e = elim (decLt y (q .count)) [
         | yes h ↦
-            let r = node (y + 1) (omega arith) (omega arith) in
+            let r = node-at d q t (checked .written) counted (y + 1) (omega arith) (omega arith) in
             let m = r .ends in
             let p = size-pos (r .term) in
             let i : last (r .start) (r .term) ≡ y = omega arith in
@@ -110,60 +101,31 @@ module _ (d : Database) (limit : ℕ) (q : Query) (t : Term) (checked : Checked 
       ]
 
   module _ (k n : ℕ) where
-    -- the query with what a rule writes for the node's term
-    abbrev replacedBy : Term → Term → Query
-    replacedBy a b = withNodes q (replaced (nodes q) n a b)
-
     matched-reply : {C : Cols} {s : ℕ} (a : Term) → Here d q t (checked .written) C s a → s + size a ≡ n → (o : Option Match) → match k a ≡ o
-        → (orRefuse o NoMatch >>= (λ m. answered (stableEnough G C m) (unusedEnough G C m) (closedEnough m) (written m))) >>= (λ b. accepted (replacedBy a b))
+        → (orRefuse o NoMatch >>= (λ m. answered (stableEnough G C m) (unusedEnough G C m) (closedEnough m) (written m))) >>= (λ b. accepted (replacedBy q n a b))
         ≡ replyTo q facts (last s a) (found s o)
     matched-reply a h e none f = refl
     matched-reply {C} {s} a h e (some m) f =
         let r : Here d q t (checked .written) C s (redex m) = subst (Here d q t (checked .written) C s) (matched k a f) h in
         let p : Query = writtenAt q facts (last s a) (foundOf s m) in
-        answers-same (stableEnough G C m) (unusedEnough G C m) (closedEnough m) (written m) (replacedBy a) p
+        answers-same (stableEnough G C m) (unusedEnough G C m) (closedEnough m) (written m) (replacedBy q n a) p
         (λ c. ap (λ (i : ℕ). withNodes q (replaced (nodes q) i a (written m))) (sym e) ∙ written-is d limit q t checked counted fits a k m h f c)
         ∙ ap₂ (λ (x y : Bool). asked x y (closedEnough m) >>= λ _. accepted p) (sym (stable-is d limit q t checked counted fits m r)) (sym (unused-is d limit q t checked counted fits m r))
         ∙ ap₂ (λ (b x : Bool). (require b NoMatch >>= λ _. asked (stableAt q facts (foundOf s m)) (unusedAt q facts (foundOf s m)) x) >>= λ _. accepted p)
         (sym (match-found s m)) (sym (closed-is d limit q t checked counted fits m r))
 
-    node-reply : {C : Cols} {s : ℕ} (a : Term) → Here d q t (checked .written) C s a → s + size a ≡ n
-        → rule G C k a >>= (λ b. accepted (replacedBy a b)) ≡ replyTo q facts (n - 1) (foundAt q facts k (n - 1))
+    -- what the rule replies for the term of a node is what is replied by the index
+    pub node-reply : {C : Cols} {s : ℕ} (a : Term) → Here d q t (checked .written) C s a → s + size a ≡ n
+        → rule G C k a >>= (λ b. accepted (replacedBy q n a b)) ≡ replyTo q facts (n - 1) (foundAt q facts k (n - 1))
     unfolding rule
     node-reply {C} {s} a h e =
         let i : last s a ≡ n - 1 = ap (λ (j : ℕ). j - 1) e in
         matched-reply a h e (match k a) refl ∙ ap (replyTo q facts (last s a)) (sym (found-at d limit q t checked counted fits k a h))
         ∙ ap (λ (j : ℕ). replyTo q facts j (foundAt q facts k j)) i
 
-    -- what the definition replies for the term of node n
-    abbrev replyOf : Cols → Option Term → Reply Query
-    replyOf C o = orRefuse o NoMatch >>= λ a. rule G C k a >>= λ b. accepted (replacedBy a b)
-
-    past : q .count < n → endedAt (nodes q) n ≡ none
-    unfolding endedAt
-    past h = rw (lt-leb n (length (nodes q)) (omega arith))
-
-    ended : {C : Cols} {s : ℕ} (a : Term) → Here d q t (checked .written) C s a → s + size a ≡ n → n ≤ q .count → endedAt (nodes q) n ≡ some a
-    unfolding endedAt
-    ended a h e i = rw (le-leb n (length (nodes q)) (omega arith)) (ap top (here-reads d q t (checked .written) h n e))
-
-    first : n ≡ 0 → endedAt (nodes q) n ≡ none
-    unfolding endedAt read
-    first e = rw (e, le-leb 0 (length (nodes q)) (omega arith))
-
-    step-reply : replyOf (around G noCols t n) (endedAt (nodes q) n) ≡ stepReply q facts k n
-    step-reply = elim (decLt 0 n) [
-      | no h ↦
-          let e : n ≡ 0 = omega arith in
-          ap (replyOf (around G noCols t n)) (first e) ∙ no-node q facts k n e
-      | yes h ↦ elim (decLt (q .count) n) [
-        | yes i ↦ ap (replyOf (around G noCols t n)) (past i) ∙ past-node q facts k n (λ e. omega arith) i
-        | no i ↦
-            let r = node n (omega arith) (omega arith) in
-            let m : r .start + size (r .term) ≡ n = r .ends ∙ omega arith in
-            ap₂ replyOf (r .is) (ended (r .term) (r .here) m (omega arith)) ∙ node-reply (r .term) (r .here) m ∙ at-node q facts k n (λ e. omega arith) (omega arith)
-      ]
-    ]
+    step-reply : replyOf q (λ C a. rule G C k a) n (around G noCols t n) (endedAt (nodes q) n)
+        ≡ stepReply q facts k n
+    step-reply = step-at-node d q t (checked .written) counted (λ C a. rule G C k a) (λ i. replyTo q facts i (foundAt q facts k i)) n (λ C s a h e. node-reply a h e)
 
 -- the definition's step of a query that is checked over a database and needs no splitting
 pub step-exact : (limit : ℕ) (q : Query) (d : Database) (store : List ℕ) (t : Term) → checkOver columns limit q d store ≡ accepted t → nodes q ≡ lines t

@@ -205,7 +205,10 @@ judgedAt q facts m = do
 abbrev pub replyTo : Query → Facts → ℕ → Found → Reply Query
 replyTo q facts i m = judgedAt q facts m >>= λ _. accepted (writtenAt q facts i m)
 
--- the step of kind k at node n; "Nodes count from 1."
+-- "Nodes count from 1.": what is replied at node n, by the index; 12 where there is no such node
+abbrev pub atNode : Query → (ℕ → Reply Query) → ℕ → Reply Query
+atNode q reply n = if eqb n 0 then refused NoMatch else if leb n (q .count) then reply (n - 1) else refused NoMatch
+
+-- the step of kind k at node n
 abbrev pub stepReply : Query → Facts → ℕ → ℕ → Reply Query
-stepReply q facts k n =
-    if eqb n 0 then refused NoMatch else if leb n (q .count) then replyTo q facts (n - 1) (foundAt q facts k (n - 1)) else refused NoMatch
+stepReply q facts k n = atNode q (λ i. replyTo q facts i (foundAt q facts k i)) n
