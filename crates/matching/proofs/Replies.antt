@@ -25,7 +25,7 @@ tests f s u c = do
   require c OpenOperand
 
 -- one test's verdict
-abbrev tested : Bool → Refusal → Verdict
+abbrev pub tested : Bool → Refusal → Verdict
 tested b r = verdict (noFault (unless b r))
 
 -- the first refusal of four tests
