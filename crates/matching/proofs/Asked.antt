@@ -28,13 +28,13 @@ use Rattle.matching.proofs.Loops.{here-formed, here-closed, unstable-is
 use Rattle.matching.proofs.Matched.{foundOf}
 
 -- tests that agree on each column below n
-every-same : (p r : ℕ → Bool) (n : ℕ) (l : List ℕ) → every (λ c. ltb c n) l ≡ true → ((c : ℕ) → c < n → p c ≡ r c) → every p l ≡ every r l
+pub every-same : (p r : ℕ → Bool) (n : ℕ) (l : List ℕ) → every (λ c. ltb c n) l ≡ true → ((c : ℕ) → c < n → p c ≡ r c) → every p l ≡ every r l
 unfolding every
 every-same p r n [] e h = refl
 every-same p r n (c ∷ l) e h =
     ap₂ _&&_ (h c (ltb-true c n (and-true-left (ltb c n) _ e))) (every-same p r n l (and-true-right (ltb c n) _ e) h)
 
-filter-formed : (f : Condition) (a : Term) → every (onForm columns) (lines (filter f a)) ≡ true → every (λ c. ltb c columns) (named f) ≡ true
+pub filter-formed : (f : Condition) (a : Term) → every (onForm columns) (lines (filter f a)) ≡ true → every (λ c. ltb c columns) (named f) ≡ true
 unfolding lines every
 filter-formed f a e = and-true-left (every (λ c. ltb c columns) (named f)) true (every-split (onForm columns) (lines a) _ e .1)
 

@@ -37,6 +37,10 @@ use Rattle.matching.proofs.Loops.{here-told, here-fine, here-numbers, s
 use Rattle.matching.proofs.Matched.{foundOf}
 use Rattle.matching.proofs.Sheets.{moved-is, merged-is}
 
+-- lines with a term's behind them
+pub front : (f : List Node) (s : ℕ) (a : Term) → length f ≡ s → length (f ++ lines a) ≡ s + size a
+front f s a e = length-append f (lines a) ∙ ap₂ _+_ e (size-lines a)
+
 module _ (d : Database) (limit : ℕ) (q : Query) (t : Term) (checked : Checked limit q (schema columns d) t) (counted : length (nodes q) ≡ q .count) (fits : q .count ≤ nodeLimit) where
   abbrev G : Schema
   G = schema columns d
@@ -63,9 +67,6 @@ module _ (d : Database) (limit : ℕ) (q : Query) (t : Term) (checked : Checked 
 
   fix-number : {C : Cols} {n : ℕ} (x : Loop) → At C n (fixOf x) → x .var ≡ fixNumber (lineAt q (last n (fixOf x)))
   fix-number x h = ap fixNumber (sym (here-told d limit q t checked counted fits h .line))
-
-  front : (f : List Node) (s : ℕ) (a : Term) → length f ≡ s → length (f ++ lines a) ≡ s + size a
-  front f s a e = length-append f (lines a) ∙ ap₂ _+_ e (size-lines a)
 
   -- document 01's patterns; f: the lines before the node's own, r: those behind
   pattern : {C : Cols} {s : ℕ} (m : Match) → At C s (redex m) → (f r : List Node) → length f ≡ s → nodes q ≡ f ++ (linesBefore m ++ r)

@@ -13,7 +13,7 @@ use Rattle.query.specs.declared.Query.{Query}
 use Rattle.query.specs.Lines.{nodes, line}
 use Rattle.rewrite.specs.Rewrite.{withNodes}
 use Rattle.rewrite.specs.Patterns.{renameLine, renameLines}
-use Rattle.rewrite.specs.Splices.{withLines, exchanged, renamedLine, merged}
+use Rattle.rewrite.specs.Splices.{withLines, exchanged, withInserted, renamedLine, merged}
 use Rattle.rewrite.proofs.Splices.{part-at, rest-at}
 
 -- the parts of a list exchanged
@@ -87,6 +87,24 @@ module _ (q : Query) (counted : length (nodes q) ≡ q .count) where
       (new
       ∙ sym (ap (exchanged a b c) parts
       ∙ exchange-parts (map line p) (map line x) (map line y) (whole r) a b c (length-map p line ∙ e) (ap (λ (n : ℕ). a + n) (length-map x line) ∙ f) (ap (λ (n : ℕ). b + n) (length-map y line) ∙ g)))
+
+  -- kind 7: a line more
+  pub inserted-is : (p r : List Node) (x : Node) → nodes q ≡ p ++ r → (a : ℕ) → length p ≡ a → withNodes q (p ++ (x ∷ r)) ≡ withInserted q a x
+  inserted-is p r x s a e =
+      let P = map line p in
+      let R = map line r in
+      let n : ℕ = q .count in
+      let parts : q .lines ≡ P ++ (R ++ tail) = lines-whole ∙ ap whole s ∙ whole-append p r in
+      let nP : length P ≡ a = length-map p line ∙ e in
+      let size = length-append p r in
+      let nR : length R ≡ n - a = length-map r line ∙ omega (arith, counted, ap length s) in
+      let one : take a (q .lines) ≡ P = ap (take a) parts ∙ take-at P (R ++ tail) a nP in
+      let two : take (n - a) (drop a (q .lines)) ≡ R = ap (λ (l : List Line). take (n - a) (drop a l)) parts ∙ part-at P R tail a (n - a) nP nR in
+      let long : length (p ++ (x ∷ r)) ≡ n + 1 = length-append p (x ∷ r) ∙ omega (arith, counted, ap length s) in
+      ap (λ (k : ℕ). record { count = k; lines = map line (p ++ (x ∷ r)) ++ drop k (q .lines) }) long
+      ∙ ap (λ (l : List Line). record { count = n + 1; lines = l })
+      (ap (λ (l : List Line). l ++ drop (n + 1) (q .lines)) (map-append line p (x ∷ r)) ∙ append-assoc P (line x ∷ R) (drop (n + 1) (q .lines))
+      ∙ ap₂ (λ (l m : List Line). l ++ (line x ∷ (m ++ drop (n + 1) (q .lines)))) (sym one) (sym two))
 
   -- kind 6: p ends with the left seed; steps t and z, the right seed y
   module _ (p t y z r : List Node) (f g j : Node) (s : nodes q ≡ p ++ (t ++ (f ∷ (y ++ (z ++ (g ∷ (j ∷ r))))))) where

@@ -18,7 +18,7 @@ use Rattle.passing.specs.declared.Passed.the-variants.{Nothing, PastUnio
 use Rattle.passing.specs.Passing.{isPassed, roomAt, sideAt, passJudged}
 
 -- f: something is found; r, s: 2 and 22 are met
-abbrev tests : Bool → Bool → Bool → Reply (Unit {0})
+abbrev pub tests : Bool → Bool → Bool → Reply (Unit {0})
 tests f r s = do
   _ ← require f NoMatch
   _ ← require r (NodeCount 0)

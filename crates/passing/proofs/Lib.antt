@@ -1,1 +1,4 @@
 pub mod Judging
+pub mod PassFound
+pub mod PassWritten
+pub mod PassExact

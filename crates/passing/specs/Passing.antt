@@ -125,6 +125,10 @@ module _ (limit : ℕ) (q : Query) (facts : Facts) where
     _ ← require (roomAt limit q m) (NodeCount 0)
     require (sideAt q facts i m) SideLacks
 
+  -- and what is written
+  abbrev pub passReplyTo : ℕ → Passed → Reply Query
+  passReplyTo i m = passJudged i m >>= λ _. accepted (passWritten q facts i m)
+
   -- the step of kind k at the node of index i
   abbrev pub passReply : ℕ → ℕ → Reply Query
-  passReply k i = passJudged i (passedAt q k i) >>= λ _. accepted (passWritten q facts i (passedAt q k i))
+  passReply k i = passReplyTo i (passedAt q k i)

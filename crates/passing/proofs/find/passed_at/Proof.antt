@@ -1,6 +1,5 @@
 -- Its own line decides, then the one that it takes.
 use borrow.Author.Needs.{needs}
-use Prim.Native.Nat.{ℕ}
 use mathlib.Core.Path.{_≡_, ap, sym, _∙_}
 use Rattle.query.specs.declared.Node.{Node}
 use Rattle.rewrite.specs.Places.{lineAt}

@@ -1,6 +1,6 @@
 -- Only kind 7 adds a node.
 use borrow.Author.Needs.{needs}
-use mathlib.Core.Path.{ap, sym, _∙_}
+use mathlib.Core.Path.{ap, sym}
 use Rattle.passing.specs.Passing.{roomAt}
 use Rattle.passing.proofs.judge.has_room.Statement.{statement}
 use Rattle.passing.proofs.judge.has_room.Tie as tie

@@ -1,13 +1,12 @@
 -- The side is where the check tells.
 use borrow.Author.Needs.{needs}
 use native.Mathlib.Omega.{arith}
-use Prim.Native.Nat.{ℕ, _-_}
-use mathlib.Core.Path.{_≡_, ap, sym, _∙_}
+use Prim.Native.Nat.{ℕ}
+use mathlib.Core.Path.{ap, sym, _∙_}
 use mathlib.Core.Bool.{Bool}
 use Rattle.laws.specs.Lists.{every}
 use Rattle.algebra.specs.Columns.{named}
 use Rattle.algebra.specs.declared.Condition.{Condition}
-use Rattle.query.specs.declared.Facts.{Facts}
 use Rattle.matching.specs.Found.{colsAt}
 use Rattle.passing.specs.Passing.{rightEnd, sideAt}
 use Rattle.passing.proofs.judge.has_side.Statement.{statement}
@@ -21,11 +20,10 @@ side-holds-requires c κs =
     omega arith
 
 -- the columns at a place
-held : (s : tie.Start) (f : Condition) → ℕ → Bool
+abbrev held : tie.Start → Condition → ℕ → Bool
 held s f x = every (colsAt (s .args .query) (s .args .facts) x) (named f)
 
 returns-3 : tie.Need-returns-3
-unfolding held
 returns-3 c =
     let e = c .before in
     let n = e .before .before in
@@ -34,7 +32,6 @@ returns-3 c =
     c .side-holds .ensures ∙ ap (held s (n .found .given .0 .0)) (e .left-end .ensures) ∙ ap (sideAt (a .query) (a .facts) (a .i)) (sym (n .found .given .1))
 
 returns-4 : tie.Need-returns-4
-unfolding held
 returns-4 c =
     let e = c .before in
     let n = e .before .before in

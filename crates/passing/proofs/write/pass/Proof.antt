@@ -1,13 +1,11 @@
 -- The verdict of the tests decides.
 use borrow.Author.Needs.{needs}
-use mathlib.Core.Path.{_≡_, ap, ap₂, sym, _∙_, subst}
+use mathlib.Core.Path.{ap, sym, _∙_}
 use Rattle.database.specs.declared.Verdict.the-variants.{Accepted}
-use Rattle.database.specs.Refusals.{accepted, verdict, _>>=_}
 use Rattle.query.specs.declared.Query.{Query}
 use Rattle.rewrite.specs.Rewrite.{rewritten}
 use Rattle.matching.proofs.Replies.{judged-refused, judged-accepted}
-use Rattle.passing.specs.declared.Passed.{Passed}
-use Rattle.passing.specs.Passing.{passedAt, passJudged, passWritten}
+use Rattle.passing.specs.Passing.{passJudged, passWritten, passReplyTo}
 use Rattle.passing.proofs.Judging.{accepted-room}
 use Rattle.passing.proofs.write.pass.Statement.{statement}
 use Rattle.passing.proofs.write.pass.Tie as tie
@@ -30,7 +28,7 @@ returns c =
     ∙ ap (rewritten (a .query))
     (judged-refused (passJudged (a .limit) (a .query) (a .facts) (a .i) (f .passed-at .result)) (passWritten (a .query) (a .facts) (a .i) (f .passed-at .result)) _
     (sym (m .judged .ensures) ∙ v .verdict .given .1)
-    ∙ ap (λ (x : Passed). passJudged (a .limit) (a .query) (a .facts) (a .i) x >>= λ _. accepted (passWritten (a .query) (a .facts) (a .i) x)) (f .passed-at .ensures))
+    ∙ ap (passReplyTo (a .limit) (a .query) (a .facts) (a .i)) (f .passed-at .ensures))
 
 returns-2 : tie.Need-returns-2
 returns-2 c =
@@ -42,7 +40,7 @@ returns-2 c =
     ∙ ap (rewritten (a .query))
     (judged-accepted (passJudged (a .limit) (a .query) (a .facts) (a .i) (f .passed-at .result)) (passWritten (a .query) (a .facts) (a .i) (f .passed-at .result))
     (sym (m .judged .ensures) ∙ v .enum-told .given .1)
-    ∙ ap (λ (x : Passed). passJudged (a .limit) (a .query) (a .facts) (a .i) x >>= λ _. accepted (passWritten (a .query) (a .facts) (a .i) x)) (f .passed-at .ensures))
+    ∙ ap (passReplyTo (a .limit) (a .query) (a .facts) (a .i)) (f .passed-at .ensures))
 
 pub pass-spec : {M : Type 1} → statement M
 pass-spec =
