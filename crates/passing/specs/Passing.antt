@@ -85,6 +85,10 @@ rightEnd i = rightOf (rightOf i)
 abbrev pub rightStart : Facts → ℕ → ℕ
 rightStart facts i = startAt facts (rightEnd i)
 
+-- 9 and 11: the filter and the line that it takes are exchanged
+abbrev pub loweredAt : Query → ℕ → Query
+loweredAt q i = withLines q (exchanged (rightOf i) i (i + 1) (q .lines))
+
 module _ (q : Query) (facts : Facts) (i : ℕ) where
   -- 22, "the named side lacks a column of the filter"
   abbrev pub sideAt : Passed → Bool
@@ -99,11 +103,6 @@ module _ (q : Query) (facts : Facts) (i : ℕ) where
   abbrev pub leftAt : Query
   leftAt = withLines q (exchanged (rightStart facts i) i (i + 1) (q .lines))
 
--- 9 and 11: the filter and the line that it takes are exchanged
-abbrev pub loweredAt : Query → ℕ → Query
-loweredAt q i = withLines q (exchanged (rightOf i) i (i + 1) (q .lines))
-
-module _ (q : Query) (facts : Facts) (i : ℕ) where
   -- 7: a second filter before the right side's first line, and the first one, now a line further, at the right side
   abbrev pub bothAt : Condition → Query
   bothAt f = loweredAt (withInserted q (rightStart facts i) (Filter f)) (i + 1)
@@ -112,9 +111,9 @@ module _ (q : Query) (facts : Facts) (i : ℕ) where
   abbrev pub passWritten : Passed → Query
   passWritten Nothing = q
   passWritten (PastUnion f) = bothAt f
-  passWritten (PastLeft f) = leftAt q facts i
+  passWritten (PastLeft f) = leftAt
   passWritten (PastRight f) = loweredAt q i
-  passWritten PastExcept = leftAt q facts i
+  passWritten PastExcept = leftAt
   passWritten PastFilter = loweredAt q i
 
 module _ (limit : ℕ) (q : Query) (facts : Facts) where
