@@ -14,7 +14,8 @@ use Rattle.rewrite.specs.Patterns.{renameLine}
 abbrev pub withLines : Query → List Line → Query
 withLines q l = record { count = q .count; lines = l }
 
--- the elements from a to b and those from b to c exchanged: rules 1 to 5 move [step, fix] behind what follows it
+-- the elements from a to b and those from b to c exchanged: rules 1 to 5 move [step, fix] behind what follows it, rules 7 to 11
+-- a filter before lines that it takes
 abbrev pub exchanged : {A : Type 0} → ℕ → ℕ → ℕ → List A → List A
 exchanged a b c l = take a l ++ (take (c - b) (drop b l) ++ (take (b - a) (drop a l) ++ drop c l))
 
