@@ -99,8 +99,9 @@ uint64_t capeshard_read_database(const uint8_t *text, size_t text_len, uint32_t 
 uint64_t capeshard_check(const uint32_t *query, size_t query_len, const uint32_t *database, size_t database_len, const uint32_t *store,
                          size_t store_len, size_t limit);
 
-/* Rewrites a query by a kind at a node (as the check, then 12 to 15); accepted, the query is the rule's, with each mu split; refused, it is
- * unchanged. A column that must be stable (13) is one that the step's result has with itself as origin: a copy passes the origin on, a drop removes it. */
+/* Rewrites a query by a kind, 1 to 11, at a node: as the check, then 12 to 15; of kinds 7 to 11 instead 12, then 22, or 2 with place 0 if the query, each mu
+ * split, has as many nodes as it may have and kind 7 would add one. Accepted, the query is the rule's, with each mu split; refused, it is unchanged. A column
+ * that must be stable (13) is one that the step's result has with itself as origin: a copy passes the origin on, a drop removes it. */
 uint64_t capeshard_rewrite(uint32_t *query, size_t query_len, const uint32_t *database, size_t database_len, const uint32_t *store, size_t store_len,
                            size_t limit, uint32_t kind, uint32_t node);
 
@@ -137,7 +138,7 @@ uint64_t capeshard_panel_read_path(const uint8_t *path, size_t path_len, const u
 uint64_t capeshard_panel_check(const uint32_t *query, size_t query_len, const uint32_t *database, size_t database_len, const uint32_t *store,
                                size_t store_len);
 
-/* Rewrites a query by a kind at a node (as the panel's check, then 12 to 15). */
+/* Rewrites a query by a kind at a node (as the panel's check, then as capeshard_rewrite). */
 uint64_t capeshard_panel_rewrite(uint32_t *query, size_t query_len, const uint32_t *database, size_t database_len, const uint32_t *store,
                                  size_t store_len, uint32_t kind, uint32_t node);
 

@@ -25,7 +25,7 @@ def every_crate_is_in_the_readme():
 
 
 def the_width_stands_once():
-    """The number of columns is a parameter: the numeral is given to it in one place; elsewhere it is refusal number 8 and the bytes of `refused=`."""
+    """The number of columns is a parameter: the numeral is given to it in one place; elsewhere it is refusal number 8, kind 8 and the bytes of `refused=`."""
     found = []
     for path in crate_files("specs"):
         if path.relative_to(TOP / "crates").parts[0] in EXAMPLES:
@@ -36,6 +36,11 @@ def the_width_stands_once():
     allowed = [
         ("crates/relation/specs/Rows.antt", "columns = 8"),
         ("crates/database/specs/Refusals.antt", "number (HalfOpen n) = 8"),
+        (
+            "crates/algebra/specs/Past.antt",
+            "pastPair k f Join a b = if eqb k 8 then some (past-left f a b) else (if eqb k 9 then some (past-right f a b) else none)",
+        ),
+        ("crates/passing/specs/Passing.antt", "pairPassed Join = if eqb k 8 then PastLeft f else if eqb k 9 then PastRight f else Nothing"),
         ("crates/writing/specs/Rooms.antt", "refusalRoom = lineRoom 8 (numberDigits + 1 + placeDigits)"),
     ]
     return [f"{path}: {line}" for path, line in found if (path, line) not in allowed] + [
@@ -201,7 +206,7 @@ def the_pages_show_the_cases():
     """Each example of docs/WHY.md, docs/EDITORS.md and docs/PATHS.md is a test case, and each section of the first two has an example refused and one
     accepted; docs/PATHS.md has one for each sign of a path."""
     bad = []
-    for page, last, refused, folders in (("WHY.md", 6, "refused=", ["cases"]), ("EDITORS.md", 21, "refused={},", ["cases", "paths"])):
+    for page, last, refused, folders in (("WHY.md", 11, "refused=", ["cases"]), ("EDITORS.md", 22, "refused={},", ["cases", "paths"])):
         text = (TOP / "docs" / page).read_text()
         bad += [f"docs/{page}: {complaint}" for complaint in shown_wrongly(text) + sections_without_examples(text, last, refused, folders)]
     text = (TOP / "docs" / "PATHS.md").read_text()

@@ -553,8 +553,9 @@ impl Query {
         })
     }
 
-    /// Rewrites the query by a kind at a node, nodes counting from 1 in the query with each `mu` split (as the check, then 12 to 15). Accepted, no `mu` is
-    /// left in it; a refusal leaves it as it was. A column that must be stable (13) is one that the step's result has with itself as origin.
+    /// Rewrites the query by a kind at a node, nodes counting from 1 in the query with each `mu` split (as the check, then 12 to 15; of kinds 7 to 11 12, then
+    /// 2 or 22). Accepted, no `mu` is left in it; a refusal leaves it as it was. A column that must be stable (13) is one that the step's result has with itself
+    /// as origin.
     pub fn rewrite(&mut self, database: &Database, kind: u32, node: u32) -> Result<(), Refusal> {
         // SAFETY: each pointer and length is that of one slice, and the written one is borrowed here alone.
         reply(unsafe {

@@ -56,7 +56,8 @@ pub fn check(query: &Query, database: &Database) -> Result<(), Refusal> {
     })
 }
 
-/// Rewrites a query by a kind at a node, nodes counting from 1 (as the check, then 12 to 15); a refusal leaves it as it was.
+/// Rewrites a query by a kind at a node, nodes counting from 1 (as the check, then 12 to 15; of kinds 7 to 11 12,
+/// then 2 or 22); a refusal leaves it as it was.
 pub fn rewrite(query: &mut Query, database: &Database, kind: u32, node: u32) -> Result<(), Refusal> {
     // SAFETY: each pointer and length is that of one slice, and the written one is borrowed here alone.
     reply(unsafe {

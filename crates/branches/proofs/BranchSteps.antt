@@ -1,4 +1,4 @@
--- What an accepted step of a checked sheet leaves: the rule's term stands in the place of the node's, with its size and columns, and the new sheet is checked
+-- What an accepted step of kinds 1 to 6 leaves of a checked sheet: the rule's term stands in the place of the node's, with its size and columns, and the new sheet is checked
 -- again. So a step at a node that has no line in common with it finds the same term and the same columns around, and replies and writes what it did.
 use mathlib.Core.Path.{_≡_, refl, ap, ap₂, sym, _∙_, subst}
 use mathlib.Core.Option.{Option, some, none}
@@ -7,11 +7,12 @@ use Prim.Native.Nat.{ℕ, _+_, _-_, _≤_}
 use native.Mathlib.Omega.{arith}
 use lib.ListN.{length, take, drop as dropFirst}
 use lib.Seq.{sets, sets-eq, length-sets}
+use borrow.Author.Tests.{le-leb}
 use Rattle.algebra.specs.Term.{Term}
 use Rattle.algebra.specs.Columns.{Cols, noCols, Schema, cols, size}
 use Rattle.algebra.proofs.Sizes.{size-positive}
 use Rattle.algebra.proofs.Redex.{matched}
-use Rattle.algebra.proofs.Written.{written-columns}
+use Rattle.algebra.proofs.Written.{written-size, written-columns}
 use Rattle.database.specs.declared.Database.{Database}
 use Rattle.database.specs.declared.Refusal.the-variants.{NoMatch}
 use Rattle.database.specs.Stored.{schema, checkDatabase}
@@ -22,29 +23,16 @@ use Rattle.query.specs.declared.Query.{Query}
 use Rattle.query.specs.Lines.{nodes, lines, checkForm, termOf}
 use Rattle.query.specs.Check.{splitTerm, splitOf, faults, checkQuery, checkOver}
 use Rattle.query.proofs.Reading.{size-lines}
-use Rattle.query.proofs.TermLines.{term-lines}
-use Rattle.query.proofs.CheckReply.{CheckedSplit}
 use Rattle.query.proofs.CheckedOver.{check-over-iff}
 use Rattle.query.proofs.SplitSheet.{lines-back, with-again}
 use Rattle.rewrite.specs.Rewrite.{around, rule, endedAt, replaced, withNodes, rewrite, handedBack, Step}
-use Rattle.rewrite.proofs.NodeParts.{part-narrow, around-narrow}
-use Rattle.rewrite.proofs.RuleExact.{RuleReply, allowed, rule-exact}
-use Rattle.rewrite.proofs.RewriteExact.{Accepted}
-use Rattle.rewrite.proofs.Held.{now, step-checked}
-use Rattle.rewrite.proofs.SplitSheet.{rule-size}
+use Rattle.rewrite.proofs.RewriteExact.{Allows, by-rule, by-past, allows-iff}
+use Rattle.rewrite.proofs.AfterStep.{step-checked}
 use Rattle.rewrite.proofs.Inside.{Inside, puts, own-lines, within-lines, puts-lines, inside-found, found-inside}
 use Rattle.branches.specs.Branches.{splitLines, Apart, stepped, Commute}
 use Rattle.branches.proofs.Beside.{Clear, first, last, same-ended, around-beside}
 use Rattle.branches.proofs.SetsCommute.{sets-commute}
 use Rattle.branches.proofs.Stretches.{apart-sym, apart-clear}
-
--- two terms with the same lines are one
-lines-same : (t u : Term) → lines t ≡ lines u → t ≡ u
-lines-same t u e = accepted-same (sym (term-lines (lines t) t .1 refl) ∙ term-lines (lines t) u .1 e)
-
--- what a rule writes has the columns of what it finds, whatever the variable's
-rule-columns : {G : Schema} {C : Cols} {k : ℕ} {a b : Term} → RuleReply G C k a (accepted b) → (D : Cols) → cols G D b ≡ cols G D a
-rule-columns {G = G} {k = k} {a = a} (allowed m found _ _ _) D = written-columns G D m ∙ ap (cols G D) (sym (matched k a found))
 
 -- the nodes of steps on a checked sheet count in the lines of its term
 pub split-lines : (w limit : ℕ) (q : Query) (d : Database) (store : List ℕ) (t : Term) → checkOver w limit q d store ≡ accepted t → splitLines q ≡ lines t
@@ -101,11 +89,11 @@ module _ (w limit : ℕ) (d : Database) (store : List ℕ) where
   abbrev pub applied : ℕ → Cols → Option Term → Reply Writes
   applied k C o = orRefuse o NoMatch >>= λ a. rule G C k a >>= λ b. accepted (a, b)
 
-  -- a step on a checked sheet, by the term at its node and the columns around
-  pub step-applied : (q : Query) (t : Term) → checkOver w limit q d store ≡ accepted t → (k n : ℕ)
+  -- a step of kinds 1 to 6 on a checked sheet, by the term at its node and the columns around
+  pub step-applied : (q : Query) (t : Term) → checkOver w limit q d store ≡ accepted t → (k n : ℕ) → k ≤ 6
       → rewrite w limit q d store k n ≡ applied k (around G noCols t n) (endedAt (lines t) n) >>= hand q (lines t) n
   unfolding rewrite
-  step-applied q t over k n = rw over (by-node (endedAt (lines t) n))
+  step-applied q t over k n low = rw (over, le-leb k 6 low) (by-node (endedAt (lines t) n))
     where
       by-rule : (a : Term) (r : Reply Term)
           → r >>= (λ b. accepted (withNodes q (replaced (lines t) n a b))) ≡ (r >>= λ b. accepted (a, b)) >>= hand q (lines t) n
@@ -142,35 +130,27 @@ module _ (w limit : ℕ) (d : Database) (store : List ℕ) where
       pub same-columns : (C : Cols) → cols G C b ≡ cols G C a
       pub checked : checkOver w limit (withNodes q (replaced (lines t) n a b)) d store ≡ accepted (puts here b)
 
-    -- the rule's lines read again to a checked term
-    record Read (n : ℕ) (a b : Term) : Type 0 where
-      term : Term
-      reads : lines term ≡ replaced (lines t) n a b
-      checks : CheckedSplit limit (withNodes q (replaced (lines t) n a b)) G term
+    -- what a rule of kinds 1 to 6 writes is as large as what it finds, and has its columns, whatever the variable's
+    rule-size : {k n : ℕ} {a b : Term} → Allows w limit q d store t over k n a b → k ≤ 6 → size b ≡ size a
+    rule-size {k} {a = a} (by-rule _ m found _ _ _) low = written-size m ∙ ap size (sym (matched k a found))
+    rule-size (by-past high _ _ _ _) low = absurd (omega arith)
 
-    read-again : (k n : ℕ) (a : Term) {b : Term} → endedAt (lines t) n ≡ some a → RuleReply G (around G noCols t n) k a (accepted b) → Read n a b
-    read-again k n a e (allowed m found h g j) =
-        let x : Accepted w limit q d store t over k n (withNodes q (replaced (lines t) n a _)) =
-        record { node = a; found = m; ends = e; matches = found; stable = h; unused = g; closed = j; hands = refl } in
-        let y = now w limit q d store t over k n _ x in
-        record { term = y .term; reads = sym (term-lines _ (y .term) .0 (y .reads)); checks = step-checked w limit q d store t over k n _ x }
+    rule-columns : {k n : ℕ} {a b : Term} → Allows w limit q d store t over k n a b → k ≤ 6 → (C : Cols) → cols G C b ≡ cols G C a
+    rule-columns {k} {a = a} (by-rule _ m found _ _ _) low C = written-columns G C m ∙ ap (cols G C) (sym (matched k a found))
+    rule-columns (by-past high _ _ _ _) low C = absurd (omega arith)
 
-    pub leaves : (k n : ℕ) (a b : Term) → core k n ≡ accepted (a, b) → Leaves n a b
-    leaves k n a b e =
+    pub leaves : (k n : ℕ) (a b : Term) → k ≤ 6 → core k n ≡ accepted (a, b) → Leaves n a b
+    leaves k n a b low e =
         let m = applied-parts k (around G noCols t n) (endedAt (lines t) n) a b e in
-        let why : RuleReply G (around G noCols t n) k a (accepted b) =
-        subst (RuleReply G (around G noCols t n) k a) (m .rules)
-        (rule-exact G (around G noCols t n) k a (around-narrow w limit q d store t over n) (part-narrow w limit q d store t over n a (m .at))) in
+        let allows = allows-iff w limit q d store t over k n b (m .at) .0 (rw (le-leb k 6 low) (m .rules)) in
         let here = found-inside t n a (m .at) in
-        let r = read-again k n a (m .at) why in
-        let i : r .term ≡ puts here b = lines-same (r .term) (puts here b) (r .reads ∙ sym (puts-lines here b)) in
         record {
           here = here;
-          same-size = rule-size why;
-          same-columns = rule-columns why;
+          same-size = rule-size allows low;
+          same-columns = rule-columns allows low;
           checked =
               check-over-iff w limit _ d store (puts here b) .1
-              (check-over-iff w limit q d store t .0 over .0, subst (CheckedSplit limit (withNodes q (replaced (lines t) n a b)) G) i (r .checks));
+              (check-over-iff w limit q d store t .0 over .0, step-checked w limit q d store t over k n a (m .at) b allows);
         }
 
     -- two nodes that are apart have no line in common
@@ -196,24 +176,24 @@ module _ (w limit : ℕ) (d : Database) (store : List ℕ) where
           ap (λ (C : Cols). applied k′ C (some a′))
           (around-beside G b (l .same-columns) (l .same-size) (l .here) noCols n′ (omega (arith, size-positive a′)) clear)
 
-      after : (k′ : ℕ) → rewrite w limit (withNodes q (replaced (lines t) n a b)) d store k′ n′
+      after : (k′ : ℕ) → k′ ≤ 6 → rewrite w limit (withNodes q (replaced (lines t) n a b)) d store k′ n′
           ≡ core k′ n′ >>= hand (withNodes q (replaced (lines t) n a b)) (replaced (lines t) n a b) n′
-      after k′ =
-          step-applied (withNodes q (replaced (lines t) n a b)) (puts (l .here) b) (l .checked) k′ n′
+      after k′ low =
+          step-applied (withNodes q (replaced (lines t) n a b)) (puts (l .here) b) (l .checked) k′ n′ low
           ∙ ap₂ (λ (o : Option Term) (ns : List Node). applied k′ (around G noCols (puts (l .here) b) n′) o >>= hand (withNodes q (replaced (lines t) n a b)) ns n′)
           other-ended (puts-lines (l .here) b)
           ∙ ap (λ (c : Reply Writes). c >>= hand (withNodes q (replaced (lines t) n a b)) (replaced (lines t) n a b) n′) (same-applied k′ (endedAt (lines t) n′) refl)
 
     -- after a step, accepted or not, the other finds and writes the same
-    after-any : (k n k′ n′ : ℕ) → Apart q n n′
+    after-any : (k n k′ n′ : ℕ) → k ≤ 6 → k′ ≤ 6 → Apart q n n′
         → rewrite w limit (sheetAfter q (lines t) n (core k n)) d store k′ n′
         ≡ core k′ n′ >>= hand (sheetAfter q (lines t) n (core k n)) (linesAfter (lines t) n (core k n)) n′
-    after-any k n k′ n′ x = by-core (core k n) refl
+    after-any k n k′ n′ low low′ x = by-core (core k n) refl
       where
         by-core : (c : Reply Writes) → core k n ≡ c
             → rewrite w limit (sheetAfter q (lines t) n c) d store k′ n′ ≡ core k′ n′ >>= hand (sheetAfter q (lines t) n c) (linesAfter (lines t) n c) n′
-        by-core (refused r) e = step-applied q t over k′ n′
-        by-core (accepted (a, b)) e = after n a b (leaves k n a b e) n′ x k′
+        by-core (refused r) e = step-applied q t over k′ n′ low′
+        by-core (accepted (a, b)) e = after n a b (leaves k n a b low e) n′ x k′ low′
 
     -- a step's node and lines are among the sheet's
     own : {n : ℕ} {a b : Term} → Leaves n a b → size a ≤ n
@@ -256,28 +236,28 @@ module _ (w limit : ℕ) (d : Database) (store : List ℕ) where
     same-lines n n′ a b a′ b′ l l′ (first c) = in-order n n′ a b a′ b′ l l′ c
     same-lines n n′ a b a′ b′ l l′ (last c) = sym (in-order n′ n a′ b′ a b l′ l c)
 
-    sheets : (k n k′ n′ : ℕ) → Apart q n n′ → (c c′ : Reply Writes) → core k n ≡ c → core k′ n′ ≡ c′
+    sheets : (k n k′ n′ : ℕ) → k ≤ 6 → k′ ≤ 6 → Apart q n n′ → (c c′ : Reply Writes) → core k n ≡ c → core k′ n′ ≡ c′
         → sheetAfter (sheetAfter q (lines t) n c) (linesAfter (lines t) n c) n′ c′ ≡ sheetAfter (sheetAfter q (lines t) n′ c′) (linesAfter (lines t) n′ c′) n c
-    sheets k n k′ n′ x (refused r) (refused r′) e e′ = refl
-    sheets k n k′ n′ x (refused r) (accepted y) e e′ = refl
-    sheets k n k′ n′ x (accepted y) (refused r) e e′ = refl
-    sheets k n k′ n′ x (accepted (a, b)) (accepted (a′, b′)) e e′ =
-        let l = leaves k n a b e in
-        let l′ = leaves k′ n′ a′ b′ e′ in
+    sheets k n k′ n′ low low′ x (refused r) (refused r′) e e′ = refl
+    sheets k n k′ n′ low low′ x (refused r) (accepted y) e e′ = refl
+    sheets k n k′ n′ low low′ x (accepted y) (refused r) e e′ = refl
+    sheets k n k′ n′ low low′ x (accepted (a, b)) (accepted (a′, b′)) e e′ =
+        let l = leaves k n a b low e in
+        let l′ = leaves k′ n′ a′ b′ low′ e′ in
         let clear = clear-nodes n n′ a a′ (inside-found (l .here)) (inside-found (l′ .here)) x in
         both-sheet n n′ a b a′ b′ l l′ ∙ ap (withNodes q) (same-lines n n′ a b a′ b′ l l′ clear) ∙ sym (both-sheet n′ n a′ b′ a b l′ l)
 
-    pub checked-commute : (k n k′ n′ : ℕ) → Apart q n n′ → Commute w q (stepAt limit d store k n) (stepAt limit d store k′ n′)
-    checked-commute k n k′ n′ x =
+    pub checked-commute : (k n k′ n′ : ℕ) → k ≤ 6 → k′ ≤ 6 → Apart q n n′ → Commute w q (stepAt limit d store k n) (stepAt limit d store k′ n′)
+    checked-commute k n k′ n′ low low′ x =
         let ns = lines t in
-        let s = step-applied q t over k n in
-        let s′ = step-applied q t over k′ n′ in
+        let s = step-applied q t over k n low in
+        let s′ = step-applied q t over k′ n′ low′ in
         let l : stepped w q (stepAt limit d store k n) ≡ sheetAfter q ns n (core k n) = ap (handedBack q) s in
         let l′ : stepped w q (stepAt limit d store k′ n′) ≡ sheetAfter q ns n′ (core k′ n′) = ap (handedBack q) s′ in
-        let f = ap (λ (p : Query). rewrite w limit p d store k′ n′) l ∙ after-any k n k′ n′ x in
-        let f′ = ap (λ (p : Query). rewrite w limit p d store k n) l′ ∙ after-any k′ n′ k n (apart-sym x) in
+        let f = ap (λ (p : Query). rewrite w limit p d store k′ n′) l ∙ after-any k n k′ n′ low low′ x in
+        let f′ = ap (λ (p : Query). rewrite w limit p d store k n) l′ ∙ after-any k′ n′ k n low′ low (apart-sym x) in
         record {
           first-after = ap verdict f′ ∙ same-verdict (core k n) n (sheetAfter q ns n′ (core k′ n′)) q (linesAfter ns n′ (core k′ n′)) ns ∙ sym (ap verdict s);
           second-after = ap verdict f ∙ same-verdict (core k′ n′) n′ (sheetAfter q ns n (core k n)) q (linesAfter ns n (core k n)) ns ∙ sym (ap verdict s′);
-          same-sheet = ap₂ handedBack l f ∙ sheets k n k′ n′ x (core k n) (core k′ n′) refl refl ∙ sym (ap₂ handedBack l′ f′);
+          same-sheet = ap₂ handedBack l f ∙ sheets k n k′ n′ low low′ x (core k n) (core k′ n′) refl refl ∙ sym (ap₂ handedBack l′ f′);
         }

@@ -3,7 +3,7 @@ use mathlib.Core.Path.{_≡_, refl, ap, sym, _∙_, subst}
 use mathlib.Core.Logic.{_↔_}
 use mathlib.Core.Option.{some}
 use mathlib.Core.List.{List}
-use Prim.Native.Nat.{ℕ, _-_}
+use Prim.Native.Nat.{ℕ, _-_, _≤_}
 use native.Mathlib.Omega.{arith}
 use Rattle.laws.proofs.Options.{some-inj}
 use Rattle.algebra.specs.Term.{Term}
@@ -78,15 +78,15 @@ module _ (w limit : ℕ) (d : Database) (store : List ℕ) (q : Query) (m n : �
           (by-ended e i, by-ended (sym e) i);
     }
 
-  pub branches-kept : (k : ℕ) → BranchesKept (stepped w q (stepAt limit d store k n))
-  branches-kept k = by-check (checkOver w limit q d store) refl
+  pub branches-kept : (k : ℕ) → k ≤ 6 → BranchesKept (stepped w q (stepAt limit d store k n))
+  branches-kept k low = by-check (checkOver w limit q d store) refl
     where
       by-core : (t : Term) (over : checkOver w limit q d store ≡ accepted t) (c : Reply Writes) → core w limit d store q t over k n ≡ c
           → BranchesKept (handedBack q (c >>= hand q (lines t) n))
       by-core t over (refused r) e = stayed
-      by-core t over (accepted (a, b)) e = moved t over a b (leaves w limit d store q t over k n a b e)
+      by-core t over (accepted (a, b)) e = moved t over a b (leaves w limit d store q t over k n a b low e)
 
       by-check : (c : Reply Term) → checkOver w limit q d store ≡ c → BranchesKept (stepped w q (stepAt limit d store k n))
       by-check (refused r) e = subst BranchesKept (sym (unchecked-stays w limit q d store r e k n)) stayed
       by-check (accepted t) e =
-          subst BranchesKept (ap (handedBack q) (sym (step-applied w limit d store q t e k n))) (by-core t e (core w limit d store q t e k n) refl)
+          subst BranchesKept (ap (handedBack q) (sym (step-applied w limit d store q t e k n low))) (by-core t e (core w limit d store q t e k n) refl)

@@ -2,7 +2,7 @@
 -- many have been made; one by one the steps of the second list go behind the first.
 use mathlib.Core.Path.{_≡_, refl, ap, ap₂, sym, _∙_, subst}
 use mathlib.Core.List.{List, [], _∷_}
-use Prim.Native.Nat.{ℕ}
+use Prim.Native.Nat.{ℕ, _≤_}
 use Rattle.laws.proofs.EachMember.{Each, each-map}
 use Rattle.database.specs.declared.Database.{Database}
 use Rattle.database.specs.declared.Verdict.{Verdict}
@@ -33,7 +33,7 @@ module _ (w limit : ℕ) (d : Database) (store : List ℕ) where
     after-first : {xs ys : List Step} (q : Query) (x : Step) → Sides q m m′ (x ∷ xs) ys → Sides (stepped w q x) m m′ xs ys
     after-first {xs} {ys} q x s =
         let (g, b) = s .first .0 in
-        let k = branches-kept w (x .limit) (x .database) (x .store) q m (x .node) (b .node) (x .kind) in
+        let k = branches-kept w (x .limit) (x .database) (x .store) q m (x .node) (b .node) (x .kind) (b .kind) in
         let own = k .own in
         let other = k .other m′ (s .apart) in
         record {
@@ -42,13 +42,13 @@ module _ (w limit : ℕ) (d : Database) (store : List ℕ) where
             not-under = λ u. s .apart .not-under (record { other = u .other; among = other m .1 (u .among) });
             not-over = λ u. s .apart .not-over (record { other = u .other; among = own m′ .1 (u .among) });
           };
-          first = kept q x g own xs (s .first .1);
-          second = kept q x g other ys (s .second);
+          first = kept q x (b .kind) g own xs (s .first .1);
+          second = kept q x (b .kind) g other ys (s .second);
         }
       where
-        kept : {n : ℕ} (q : Query) (x : Step) → Given limit d store q x → SameStretch q (stepped w q x) n → (steps : List Step) → On q n steps → On (stepped w q x) n steps
-        kept q x g same steps h =
-            each-map steps (λ s (i, b). (given-after w limit d store q x s g i, record { kind = b .kind; node = same (s .node) .0 (b .node) })) h
+        kept : {n : ℕ} (q : Query) (x : Step) → x .kind ≤ 6 → Given limit d store q x → SameStretch q (stepped w q x) n → (steps : List Step) → On q n steps → On (stepped w q x) n steps
+        kept q x low g same steps h =
+            each-map steps (λ s (i, b). (given-after w limit d store q x s low g i, record { kind = b .kind; node = same (s .node) .0 (b .node) })) h
 
     commute : {xs ys : List Step} (q : Query) (x y : Step) → Sides q m m′ (x ∷ xs) (y ∷ ys) → Commute w q x y
     commute q x y s =

@@ -59,8 +59,9 @@ module _ (w limit : ℕ) (q : Query) (d₀ : Database) (store₀ : List ℕ) (t 
       let end = run-is-meaning w most p d store L budget workspace answer (k .term) now a e in
       let first = check-over-iff w limit q d₀ store₀ t .0 checked .1 in
       let closed : Closed (schema w d) t = subst (λ (H : Schema). Closed H t) (same-schema w d₀ d same) (first .well-formed .closed) in
-      let columns : cols (schema w d) noCols (k .term) ≡ cols (schema w d) noCols t = k .swap .closed closed .1 in
-      let means = k .swap .keeps (tables w d store) (typed-tables w d store) .means (λ v m. ⊥) (λ v m. ⊥) (λ v m. ((λ x. x), (λ x. x))) in
+      let swap = k .swap .closed closed in
+      let columns : cols (schema w d) noCols (k .term) ≡ cols (schema w d) noCols t = swap .columns in
+      let means = swap .keeps (tables w d store) (typed-tables w d store) (λ v m. ⊥) in
       let typed = checked-means first w d store in
       let typed-last = checked-means (k .checked) w d store in
       record {

@@ -5,12 +5,13 @@ use Rattle.laws.specs.Lists.{every, any, sift, all, lowest, tabulate}
 use Rattle.algebra.specs.Columns.{with, without, both, pairCols, cols, free, size, fixes, fixNumbers, pairOrigin, origin, used}
 use Rattle.algebra.specs.Split.{branches, unitedFrom, split}
 use Rattle.algebra.specs.Rules.{loopOf, over, overBoth, pairMatch, match, sharedStable, othersUnused, stableEnough, unusedEnough, closedEnough, rename, written}
+use Rattle.algebra.specs.Past.{underFilter, findPast}
 use Rattle.relation.specs.Rows.{ordered, ascend, rowsOf, entries}
 use Rattle.relation.specs.Operators.{insert, insertAll, compatible, combined, joinRows, exceptRows}
 use Rattle.database.specs.Stored.{tableStart, tableOk, checkDatabase}
 use Rattle.query.specs.Lines.{checkForm, lines, push, read, termOf}
 use Rattle.query.specs.Check.{splitFaults, splitTerm, unless, firstPass, secondPass, faults, checkQuery, checkOver}
-use Rattle.rewrite.specs.Rewrite.{around, rule, endedAt, rewrite}
+use Rattle.rewrite.specs.Rewrite.{around, rule, pastRule, endedAt, rewrite}
 use Rattle.plan.specs.Plan.{source, ownLine, loop, pathLines, closedLines, besideLines, planLines}
 use Rattle.machine.specs.Machine.{effectOf, step, goOn, run}
 use Rattle.machine.specs.Run.{execute}
@@ -33,5 +34,5 @@ unfolding every any sift all lowest tabulate with without both pairCols cols fre
 answers-hold = refl
 
 pub edges-hold : map prints edges ≡ map (λ (e : Example). e .printed) edges
-unfolding every any sift all lowest tabulate with without both pairCols cols free size fixes fixNumbers pairOrigin origin used loopOf over overBoth pairMatch match sharedStable othersUnused stableEnough unusedEnough closedEnough rename written ordered ascend rowsOf entries insert insertAll compatible combined joinRows exceptRows tableStart tableOk checkDatabase checkForm lines push read termOf branches unitedFrom split splitFaults splitTerm unless firstPass secondPass faults checkQuery checkOver filled around rule endedAt rewrite source ownLine loop pathLines closedLines besideLines planLines effectOf step goOn run execute bytes valueFrom number digitsBefore parts readAll commaDigits after numbersAfter byForm byForms nodeLine ascending rowLine firstLine due many readNodes readRows readTable readTables readDatabase rowsText answerText refusalText loadTables applySteps answer mathlib.Core.List.flatMap
+unfolding every any sift all lowest tabulate with without both pairCols cols free size fixes fixNumbers pairOrigin origin used loopOf over overBoth pairMatch match sharedStable othersUnused stableEnough unusedEnough closedEnough rename written underFilter findPast ordered ascend rowsOf entries insert insertAll compatible combined joinRows exceptRows tableStart tableOk checkDatabase checkForm lines push read termOf branches unitedFrom split splitFaults splitTerm unless firstPass secondPass faults checkQuery checkOver filled around rule pastRule endedAt rewrite source ownLine loop pathLines closedLines besideLines planLines effectOf step goOn run execute bytes valueFrom number digitsBefore parts readAll commaDigits after numbersAfter byForm byForms nodeLine ascending rowLine firstLine due many readNodes readRows readTable readTables readDatabase rowsText answerText refusalText loadTables applySteps answer mathlib.Core.List.flatMap
 edges-hold = refl

@@ -203,7 +203,7 @@ edges =
     ∷ (steps (reachAnd "11" "eq=0,1\n") "step=1,11" "refused=12,0\n"
     ∷ (steps (reachAnd "11" "eq=0,1\n") "step=1,0\n" "refused=12,0\n"
     ∷ (steps (reachAnd "11" "eq=0,1\n") "step=1,12\n" "refused=12,0\n"
-    ∷ (steps (reachAnd "11" "eq=0,1\n") "step=7,11\n" "refused=12,0\n"
+    ∷ (steps (reachAnd "11" "eq=0,1\n") "step=12,11\n" "refused=12,0\n"
     ∷ (steps (reachAnd "12" "eq=0,1\neq=1,3\n") "step=1,11\nstep=1,12\nstep\n" "refused=13,0\n"
     -- a file over its length, before all else
     ∷ (record { sheet = replicate 8193 48; book = []; steps = []; printed = bytes "refused=17,0\n" }

@@ -7,4 +7,4 @@ pub mod Matched
 pub mod Asked
 pub mod Sheets
 pub mod RuleWritten
-pub mod StepExact
+pub mod NodeReply

@@ -1,5 +1,5 @@
 -- What a kind finds at a node of a checked query, what 13 to 15 ask of it, and what is written, all read off the lines and what the check tells.
--- That this is document 01's step is a theorem (`step-exact`).
+-- That this is what document 01's rules reply is a theorem (`node-reply`).
 use mathlib.Core.Path.{_≡_}
 use mathlib.Core.Bool.{Bool, true, false, not, _&&_, _||_}
 use Prim.Native.Nat.{ℕ, _+_, _-_, _≤_, _<_}
@@ -208,7 +208,3 @@ replyTo q facts i m = judgedAt q facts m >>= λ _. accepted (writtenAt q facts i
 -- "Nodes count from 1.": what is replied at node n, by the index; 12 where there is no such node
 abbrev pub atNode : Query → (ℕ → Reply Query) → ℕ → Reply Query
 atNode q reply n = if eqb n 0 then refused NoMatch else if leb n (q .count) then reply (n - 1) else refused NoMatch
-
--- the step of kind k at node n
-abbrev pub stepReply : Query → Facts → ℕ → ℕ → Reply Query
-stepReply q facts k n = atNode q (λ i. replyTo q facts i (foundAt q facts k i)) n

@@ -194,9 +194,9 @@ module _ {a : Term} where
     pub puts-lines : (b : Term) → lines (puts h b) ≡ replaced (lines t) n a b
     puts-lines b = place h .changed b ∙ sym (ended-replaced (place h .at) b)
 
-    -- a term with another of the same size put in has its size
-    pub puts-size : (b : Term) → size b ≡ size a → size (puts h b) ≡ size t
-    puts-size b e =
+    -- with another put in, the term is larger by as much as that one is
+    pub puts-more : (b : Term) → size (puts h b) + size a ≡ size t + size b
+    puts-more b =
         let p = place h .at in
         omega (
           arith,
@@ -209,6 +209,9 @@ module _ {a : Term} where
           length-append (lines b) (p .rest),
           size-lines b,
         )
+
+    pub puts-size : (b : Term) → size b ≡ size a → size (puts h b) ≡ size t
+    puts-size b e = omega (arith, puts-more b)
 
 -- every number up to the term's size is a node
 pub record Found (n : ℕ) (t : Term) : Type 0 where

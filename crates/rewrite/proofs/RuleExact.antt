@@ -27,7 +27,7 @@ pub data RuleReply (G : Schema) (C : Cols) (k : ℕ) (a : Term) : Reply Term →
       → RuleReply G C k a (accepted (written m))
 
 -- a test that failed: its condition does not hold
-failed : {b : Bool} {P : Type 0} → (b ≡ true) ↔ P → b ≡ false → ¬ P
+pub failed : {b : Bool} {P : Type 0} → (b ≡ true) ↔ P → b ≡ false → ¬ P
 failed f e p = true-false (sym (f .1 p) ∙ e)
 
 -- the tests after the match, one after the other

@@ -3,11 +3,16 @@ use mathlib.Core.Path.{_≡_, refl, sym, _∙_, subst}
 use mathlib.Core.Bool.{Bool, true, false}
 use mathlib.Core.Option.{Option, some, none}
 use mathlib.Core.List.{List}
-use Prim.Native.Nat.{ℕ}
-use Rattle.algebra.specs.Term.{Term}
+use Prim.Native.Nat.{ℕ, _≤_, _<_}
+use native.Mathlib.Omega.{arith}
+use native.Mathlib.Decide.{decLe}
+use borrow.Author.Tests.{le-leb, ne-eqb}
+use Rattle.algebra.specs.declared.Pairing.{Pairing}
+use Rattle.algebra.specs.declared.Pairing.the-variants.{Union, Join, Except}
+use Rattle.algebra.specs.Term.{Term, table, var, fact, pair, filter, copy, drop, last, fix, mu}
 use Rattle.algebra.specs.Columns.{Cols, noCols, Schema}
 use Rattle.algebra.specs.WellFormed.{Closed}
-use Rattle.algebra.specs.Rules.{Match, match, stableEnough, unusedEnough, closedEnough, written}
+use Rattle.algebra.specs.Rules.{Match, pairMatch, match, stableEnough, unusedEnough, closedEnough, written}
 use Rattle.algebra.proofs.Redex.{redex, matched}
 use Rattle.algebra.proofs.UndroppedEnough.{undroppedEnough, undropped-enough}
 use Rattle.database.specs.declared.Database.{Database}
@@ -42,11 +47,38 @@ rewriteBy s w limit q d store k n = do
   b ← ruleBy s (schema w d) (around (schema w d) noCols t n) k a
   accepted (withNodes q (replaced (lines t) n a b))
 
--- with the test by origins they are the rule and the step
-pub by-origins : (w limit : ℕ) (q : Query) (d : Database) (store : List ℕ) (k n : ℕ)
+-- with the test by origins they are the rule and the step of kinds 1 to 6
+pub by-origins : (w limit : ℕ) (q : Query) (d : Database) (store : List ℕ) (k n : ℕ) → k ≤ 6
     → rewrite w limit q d store k n ≡ rewriteBy stableEnough w limit q d store k n
 unfolding rewrite rule
-by-origins w limit q d store k n = refl
+by-origins w limit q d store k n h = rw (le-leb k 6 h)
+
+-- no other kind matches
+pair-unmatched : (k : ℕ) → 6 < k → (o : Pairing) (a b : Term) → pairMatch k o a b ≡ none
+unfolding pairMatch
+pair-unmatched k h Union a b = refl
+pair-unmatched k h Join a b = rw (ne-eqb k 2 (λ e. omega arith), ne-eqb k 3 (λ e. omega arith), ne-eqb k 6 (λ e. omega arith))
+pair-unmatched k h Except a b = rw (ne-eqb k 4 (λ e. omega arith))
+
+unmatched : (k : ℕ) → 6 < k → (a : Term) → match k a ≡ none
+unfolding match
+unmatched k h (table t) = refl
+unmatched k h (var v) = refl
+unmatched k h (fact c x) = refl
+unmatched k h (pair o a b) = pair-unmatched k h o a b
+unmatched k h (filter f a) = rw (ne-eqb k 1 (λ e. omega arith))
+unmatched k h (copy c d a) = refl
+unmatched k h (drop c a) = rw (ne-eqb k 5 (λ e. omega arith))
+unmatched k h (last c a) = refl
+unmatched k h (fix v a b) = refl
+unmatched k h (mu v a) = refl
+
+-- so a rule that writes has a kind from 1 to 6
+rule-kind : (s : Stability) (G : Schema) (C : Cols) (k : ℕ) (a : Term) {p : Term} → ruleBy s G C k a ≡ accepted p → k ≤ 6
+rule-kind s G C k a e = elim (decLe k 6) [
+  | yes h ↦ h
+  | no h ↦ accepted-refused (sym (rw (unmatched k (omega arith) a) at e))
+]
 
 -- where the tests after the match pass with s they pass with whatever holds where s and c do
 tests-grow : (s s′ u c : Bool) (b : Term) {p : Term} → (s ≡ true → c ≡ true → s′ ≡ true) → tests s u c b ≡ accepted p → tests s′ u c b ≡ accepted p
@@ -77,7 +109,7 @@ stable-grows w limit q d store k n p e =
     let (t, over, e₁) = accepted-then (checkOver w limit q d store) _ e in
     let (a, ends, e₂) = accepted-then (orRefuse (endedAt (lines t) n) NoMatch) _ e₁ in
     let (b, ruled, e₃) = accepted-then (ruleBy undroppedEnough (schema w d) (around (schema w d) noCols t n) k a) _ e₂ in
-    by-origins w limit q d store k n
+    by-origins w limit q d store k n (rule-kind undroppedEnough (schema w d) (around (schema w d) noCols t n) k a ruled)
     ∙ rw (
       over,
       ends,

@@ -19,8 +19,10 @@ use Rattle.query.proofs.CheckedOver.{check-over-iff}
 use Rattle.checking.proofs.Handed.{Handed, refusal-handed, sheet-handed}
 use Rattle.rewrite.specs.Rewrite.{rewrite}
 use Rattle.rewrite.proofs.SplitSheet.{split-rewrites}
-use Rattle.matching.specs.Found.{Placed, stepReply}
-use Rattle.matching.proofs.StepExact.{step-exact, checked-placed}
+use Rattle.matching.specs.Found.{Placed}
+use Rattle.matching.proofs.NodeReply.{checked-placed}
+use Rattle.rewriting.specs.Steps.{stepReply}
+use Rattle.rewriting.proofs.StepExact.{step-exact}
 
 module _ (limit : ℕ) (q : Query) (d : Database) (store : List ℕ) (x : CheckedQuery)
     (e : x ≡ checkedValue (schema columns d) q (checkOver columns (min limit nodeLimit) q d store)) (k n : ℕ) where
@@ -43,8 +45,8 @@ module _ (limit : ℕ) (q : Query) (d : Database) (store : List ℕ) (x : Checke
         subst (Placed (x .query)) (sym (handed .told)) (checked-placed most (x .query) d store (handed .term) (handed .over) (handed .own) (handed .counted) fits)
 
     -- a step of the split sheet is a step of the query as given
-    pub step-accepted : stepReply (x .query) (x .facts) k n ≡ rewrite columns most q d store k n
+    pub step-accepted : stepReply most (x .query) (x .facts) k n ≡ rewrite columns most q d store k n
     step-accepted =
-        ap (λ (g : Facts). stepReply (x .query) g k n) (handed .told)
+        ap (λ (g : Facts). stepReply most (x .query) g k n) (handed .told)
         ∙ step-exact most (x .query) d store (handed .term) (handed .over) (handed .own) (handed .counted) fits k n
         ∙ ap (λ (p : Query). rewrite columns most p d store k n) (handed .sheet) ∙ split-rewrites columns most q d store (handed .term) (handed .checked) k n

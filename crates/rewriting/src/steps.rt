@@ -1,8 +1,9 @@
-// "Steps test the book and the sheet as a run does, then 12 to 15 in order."
+// "Steps test the book and the sheet as a run does, then 12 to 15 in order", or 12, 2 and 22.
 use super::write::rewrite_checked;
 use checking::check;
 use database::Database;
 use database::Verdict;
+use query::NODES;
 use query::Query;
 use rewrite::Rewritten;
 use rewrite::refuse;
@@ -24,6 +25,13 @@ fn handed_back(query: Query, reply: Rewritten) -> Rewritten
     }
 }
 
+// The highest node count that a query has room for and the limit allows.
+fn most_nodes(limit: usize) -> usize
+    ensures { λ r. ⌜ r ≡ min limit nodeLimit ⌝ }
+{
+    if limit < NODES { limit } else { NODES }
+}
+
 // The step of a kind at a node: the rule's query, in which every `mu` is split, or the query as given beside the refusal. No node count over `limit` is
 // taken.
 pub fn rewrite(
@@ -42,6 +50,9 @@ pub fn rewrite(
     let verdict = checked.verdict;
     match verdict {
         Verdict::Refused(cause) => refuse(query, cause),
-        Verdict::Accepted => handed_back(query, rewrite_checked(split, facts, kind, node)),
+        Verdict::Accepted => handed_back(
+            query,
+            rewrite_checked(split, facts, most_nodes(limit), kind, node),
+        ),
     }
 }

@@ -1,9 +1,10 @@
-// The sheet that a rule writes, and the step of a checked query: 12 to 15 in order.
+// The sheet that a rule of kinds 1 to 6 writes, 12 to 15 in order, and the step of a checked query.
 use super::find::find;
 use conditions::judged;
 use database::Refusal;
 use database::Verdict;
 use matching::Found;
+use passing::pass;
 use query::Facts;
 use query::Query;
 use query::nodes::node_at;
@@ -18,7 +19,8 @@ ghost use Prim.Native.Nat.{_<_, _≤_};
 ghost use Rattle.query.specs.Lines.{nodeLimit};
 ghost use Rattle.rewrite.specs.Places.{StartsLow};
 ghost use Rattle.rewrite.specs.Rewrite.{rewritten};
-ghost use Rattle.matching.specs.Found.{Fits, Placed, movedAt, mergedAt, writtenAt, replyTo, stepReply};
+ghost use Rattle.matching.specs.Found.{Fits, Placed, movedAt, mergedAt, writtenAt, replyTo};
+ghost use Rattle.rewriting.specs.Steps.{stepReply};
 
 // Kinds 1 to 5: step and fix move behind what follows them, up to the node's own line.
 fn moved(query: Query, facts: Facts, i: usize, fix: usize) -> Query
@@ -72,10 +74,10 @@ fn apply(query: Query, facts: Facts, i: usize, found: Found) -> Rewritten
     }
 }
 
-// The step of a checked query, from what the check tells of its nodes.
-pub fn rewrite_checked(query: Query, facts: Facts, kind: u32, node: u32) -> Rewritten
-    requires { ⌜ Placed query facts ⌝ }
-    ensures { λ r. ⌜ r ≡ rewritten query (stepReply query facts kind node) ⌝ }
+// The step of a checked query, from what the check tells of its nodes. No node count over `limit` is written.
+pub fn rewrite_checked(query: Query, facts: Facts, limit: usize, kind: u32, node: u32) -> Rewritten
+    requires { ⌜ Placed query facts × (limit ≤ nodeLimit) ⌝ }
+    ensures { λ r. ⌜ r ≡ rewritten query (stepReply limit query facts kind node) ⌝ }
 {
     let n = node as usize;
     if n == 0 {
@@ -85,5 +87,8 @@ pub fn rewrite_checked(query: Query, facts: Facts, kind: u32, node: u32) -> Rewr
         return refuse(query, Refusal::NoMatch);
     }
     let i = n - 1;
-    apply(query, facts, i, find(query, facts, kind, i))
+    if kind <= 6 {
+        return apply(query, facts, i, find(query, facts, kind, i));
+    }
+    pass(query, facts, limit, kind, i)
 }

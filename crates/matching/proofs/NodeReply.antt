@@ -1,4 +1,4 @@
--- On a checked query the step by the indices is document 01's step.
+-- On a checked query what kinds 1 to 6 reply by the indices is what document 01's rules reply.
 use mathlib.Core.Path.{_≡_, refl, ap, ap₂, sym, _∙_, subst}
 use mathlib.Core.Bool.{Bool, true, false}
 use mathlib.Core.Option.{Option, some, none}
@@ -17,7 +17,6 @@ use Rattle.database.specs.declared.Database.{Database}
 use Rattle.database.specs.declared.Refusal.the-variants.{NoMatch, Unstable, Used, OpenOperand}
 use Rattle.database.specs.Stored.{schema}
 use Rattle.database.specs.Refusals.{Reply, accepted, require, orRefuse, _>>=_}
-use Rattle.query.specs.declared.Node.{Node}
 use Rattle.query.specs.declared.Node.the-variants.{Table}
 use Rattle.query.specs.declared.Query.{Query}
 use Rattle.query.specs.declared.Facts.{Facts}
@@ -30,10 +29,10 @@ use Rattle.query.proofs.CheckedOver.{check-over-iff}
 use Rattle.query.proofs.CheckedTerms.{own-checked}
 use Rattle.query.proofs.Starts.{size-pos}
 use Rattle.rewrite.specs.Places.{lineAt, startAt, last}
-use Rattle.rewrite.specs.Rewrite.{around, rule, endedAt, replaced, withNodes, rewrite}
-use Rattle.matching.specs.Found.{foundAt, Placed, stableAt, unusedAt, writtenAt, replyTo, stepReply}
+use Rattle.rewrite.specs.Rewrite.{rule, replaced, withNodes}
+use Rattle.matching.specs.Found.{foundAt, Placed, stableAt, unusedAt, writtenAt, replyTo}
 use Rattle.matching.proofs.Standing.{Here}
-use Rattle.matching.proofs.AtNode.{node-at, replacedBy, replyOf, step-at-node}
+use Rattle.matching.proofs.AtNode.{node-at, replacedBy}
 use Rattle.matching.proofs.Loops.{low, here-told, step-start}
 use Rattle.matching.proofs.Matched.{foundOf, found, found-at}
 use Rattle.matching.proofs.Asked.{match-found, stable-is, unused-is, closed-is}
@@ -123,22 +122,7 @@ module _ (d : Database) (limit : ℕ) (q : Query) (t : Term) (checked : Checked 
         matched-reply a h e (match k a) refl ∙ ap (replyTo q facts (last s a)) (sym (found-at d limit q t checked counted fits k a h))
         ∙ ap (λ (j : ℕ). replyTo q facts j (foundAt q facts k j)) i
 
-    step-reply : replyOf q (λ C a. rule G C k a) n (around G noCols t n) (endedAt (nodes q) n)
-        ≡ stepReply q facts k n
-    step-reply = step-at-node d q t (checked .written) counted (λ C a. rule G C k a) (λ i. replyTo q facts i (foundAt q facts k i)) n (λ C s a h e. node-reply a h e)
-
--- the definition's step of a query that is checked over a database and needs no splitting
-pub step-exact : (limit : ℕ) (q : Query) (d : Database) (store : List ℕ) (t : Term) → checkOver columns limit q d store ≡ accepted t → nodes q ≡ lines t
-    → length (nodes q) ≡ q .count → q .count ≤ nodeLimit → (k n : ℕ)
-    → stepReply q (factsOf (schema columns d) (visits (schema columns d) noCols [] 0 t)) k n ≡ rewrite columns limit q d store k n
-unfolding rewrite
-step-exact limit q d store t e own counted fits k n =
-    let checked = own-checked own (check-over-iff columns limit q d store t .0 e .1) in
-    let G = schema columns d in
-    sym (step-reply d limit q t checked counted fits k n)
-    ∙ ap (λ (ns : List Node). orRefuse (endedAt ns n) NoMatch >>= λ a. rule G (around G noCols t n) k a >>= λ b. accepted (withNodes q (replaced ns n a b))) own
-    ∙ rw e
-
+-- of the facts of a query that is checked over a database and needs no splitting
 pub checked-placed : (limit : ℕ) (q : Query) (d : Database) (store : List ℕ) (t : Term) → checkOver columns limit q d store ≡ accepted t → nodes q ≡ lines t
     → length (nodes q) ≡ q .count → q .count ≤ nodeLimit
     → Placed q (factsOf (schema columns d) (visits (schema columns d) noCols [] 0 t))
