@@ -41,9 +41,8 @@ pub fn check(database: &Database, query: &Query) -> Result<Checked, Refusal> {
     check::check(query, database.schema())
 }
 
-/// A query in fewer entries than the panel takes nodes has no more room there.
 pub fn rewrite(database: &Database, query: &Query, kind: u32, node: u32) -> Result<Query, Refusal> {
-    rewrite::rewrite_within(NODES.min(query.most()), database, query, kind, node)
+    rewrite::rewrite_within(NODES, database, query, kind, node)
 }
 
 pub fn compile(database: &Database, query: &Query) -> Result<Plan, Refusal> {

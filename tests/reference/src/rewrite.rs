@@ -1,5 +1,5 @@
-//! The eleven kinds of rewrites on the lines of a query: 12 to 15 in order, after 12 also 2 of kind 7 and 22 of kinds 8 and 9, else the
-//! rule's query.
+//! The eleven kinds of rewrites on the lines of a query: 12, then 2 (kind 7) or 22 (8 and 9) or 13 to 15 in order (1 to 6), else the rule's
+//! query.
 
 use crate::algebra::{Columns, Pairing};
 use crate::check::{check, Checked};
@@ -64,7 +64,8 @@ fn applied(
     let Some(rule) = matched(named, kind) else {
         return refuse(12, 0);
     };
-    rule.fits(limit, checked)?;
+    // A query in fewer entries has no more room than they are.
+    rule.fits(limit.min(query.most()), checked)?;
     rule.test(stable, checked)?;
     let split = checked.lines();
     let written = rule.lines(&split, named.line);

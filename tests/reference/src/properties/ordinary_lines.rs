@@ -161,12 +161,12 @@ fn first(lines: &[Node], last: usize) -> usize {
     at
 }
 
-/// What a step of kinds 7 to 11 on these checked lines gives: the lines that it leaves, or its number.
-fn due(limit: usize, checked: &Checked, lines: &[Node], kind: u32, node: u32) -> Result<Vec<Node>, u32> {
+/// What a step of kinds 7 to 11 on these checked lines gives: the lines that it leaves, or its refusal.
+fn due(limit: usize, checked: &Checked, lines: &[Node], kind: u32, node: u32) -> Result<Vec<Node>, Refusal> {
     let last = (node as usize).wrapping_sub(1);
     let under = lines.get(last.wrapping_sub(1));
     let (Some(filter @ Node::Filter(_)), Some(under)) = (lines.get(last), under) else {
-        return Err(12);
+        return refuse(12, 0);
     };
     let fits = match kind {
         7 => *under == Node::Pair(Pairing::Union),
@@ -175,15 +175,15 @@ fn due(limit: usize, checked: &Checked, lines: &[Node], kind: u32, node: u32) ->
         _ => kind == 11 && matches!(under, Node::Filter(_)),
     };
     if !fits {
-        return Err(12);
+        return refuse(12, 0);
     }
     let left = first(lines, last);
     let right = if under.arity() == 2 { first(lines, last - 2) } else { last - 1 };
     let has = |node: usize| checked.root.at(node).is_some_and(|side| filter.names().is_subset(checked.columns(side)));
     match kind {
-        7 if lines.len() >= limit => return Err(2),
-        8 if !has(right) => return Err(22),
-        9 if !has(last - 1) => return Err(22),
+        7 if lines.len() >= limit => return refuse(2, 0),
+        8 if !has(right) => return refuse(22, 0),
+        9 if !has(last - 1) => return refuse(22, 0),
         _ => {}
     }
     let part = |part: &Part| match part {
@@ -219,15 +219,9 @@ pub fn steps(random: &mut Random, coverage: &mut Coverage) -> Verdict {
         let step = format!("step={kind},{node}");
         for limit in [lines.len(), lines.len() + 1, CAPACITY] {
             let due = due(limit, &checked, &lines, kind, node);
-            let found = apply_within(limit, &checked, &query, kind, node);
-            match (&due, &found) {
-                (Ok(due), Ok(left)) => ensure(left.lines() == due, &format!("{step}: {left:?}"), &query, &database)?,
-                (Err(number), Err(refusal)) => {
-                    let same = *refusal == Refusal { number: *number, place: 0 };
-                    ensure(same, &format!("{step}: {refusal:?}, not {number}"), &query, &database)?;
-                }
-                _ => return Err(format!("{step} within {limit}: {found:?}, not {due:?}{}", told(&query, &database))),
-            }
+            let found = apply_within(limit, &checked, &query, kind, node).map(|left| left.lines().to_vec());
+            let told = || format!("{step} within {limit}: {found:?}, not {due:?}");
+            ensure(found == due, &told(), &query, &database)?;
         }
         match apply_within(CAPACITY, &checked, &query, kind, node) {
             Ok(left) => {
@@ -326,11 +320,11 @@ pub fn limits(random: &mut Random, coverage: &mut Coverage) -> Verdict {
             1 => panel::rewrite(&database, &query, kind, node),
             _ => rewrite(&database, &query, kind, node),
         };
-        let found = reply.as_ref().map(|left| left.lines().to_vec()).map_err(|refusal| refusal.number);
-        ensure(found == due, &format!("step={kind},{node} within {limit}: {reply:?}"), &query, &database)?;
+        let found = reply.map(|left| left.lines().to_vec());
+        ensure(found == due, &format!("step={kind},{node} within {limit}: {found:?}"), &query, &database)?;
         if kind == 7 {
-            met.full[at] += u32::from(due == Err(2));
-            met.twelve_first[at] += u32::from(due == Err(12) && split == limit);
+            met.full[at] += u32::from(due == refuse(2, 0));
+            met.twelve_first[at] += u32::from(due == refuse(12, 0) && split == limit);
             met.last_room[at] += u32::from(due.is_ok());
             met.as_typed[at] += u32::from(due.is_ok() && query.lines().len() == limit);
         }
@@ -382,7 +376,8 @@ pub fn lists(random: &mut Random, coverage: &mut Coverage) -> Verdict {
                 held = left;
             }
             Err(refusal) => {
-                full |= kind == 7 && refusal.number == 2;
+                // A query over the limit is refused whatever the kind.
+                full |= kind == 7 && refusal.number == 2 && held.lines().len() <= limit;
                 coverage.refused(refusal);
             }
         }
