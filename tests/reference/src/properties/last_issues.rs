@@ -439,9 +439,11 @@ pub fn steps(random: &mut Random, coverage: &mut Coverage) -> Verdict {
     Ok(has_last(&query))
 }
 
-/// The query that steps leave has the same `last` lines, and the same rows over each database.
+/// The query that steps leave is checked and has the same `last` lines, and the same rows over each database.
 fn keeps(query: &Query, left: &Query, databases: &[Database], step: &str) -> Result<(), String> {
     for database in databases {
+        let checked = check(left, database.schema()).is_ok();
+        ensure(checked, &format!("{step}: not checked any more"), query, database)?;
         ensure(lasts(left) == lasts(query), &format!("{step}: another last"), query, database)?;
         let rows = |query: &Query| meaning_of(query, &database.relations(), MOST);
         if let (Some(before), Some(after)) = (rows(query), rows(left)) {
