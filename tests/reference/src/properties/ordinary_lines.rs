@@ -217,7 +217,7 @@ pub fn steps(random: &mut Random, coverage: &mut Coverage) -> Verdict {
     let mut tested = false;
     for (node, kind) in (0..=query.count + 1).flat_map(|node| (FIRST..=KINDS as u32).map(move |kind| (node, kind))) {
         let step = format!("step={kind},{node}");
-        for limit in [lines.len(), lines.len() + 1, CAPACITY] {
+        for limit in [lines.len(), CAPACITY.min(lines.len() + 1), CAPACITY] {
             let due = due(limit, &checked, &lines, kind, node);
             let found = apply_within(limit, &checked, &query, kind, node).map(|left| left.lines().to_vec());
             let told = || format!("{step} within {limit}: {found:?}, not {due:?}");
