@@ -5,6 +5,7 @@ use capeshard::{calls, COLUMNS, NODES};
 use reference::algebra::Relation;
 use reference::check::check;
 use reference::plan::{plan, Machine, Operation, Plan};
+use reference::rewrite::rewrite;
 use reference::run::workspace_entries;
 use reference::text::{print_database, read_database, read_query};
 use reference::value::{Database, Query, TABLE_ROWS};
@@ -60,7 +61,7 @@ impl Engine {
             let (text, to) = ((book.as_ptr(), book.len()), (database.as_mut_ptr(), database.len()));
             let rows = (store.as_mut_ptr(), store.len());
             assert_eq!(calls::capeshard_read_database(text.0, text.1, to.0, to.1, rows.0, rows.1), 0);
-            if let Some((kind, node)) = workload.step {
+            for &(kind, node) in workload.steps {
                 let (query, database) = ((query.as_mut_ptr(), query.len()), (database.as_ptr(), database.len()));
                 let rows = (store.as_ptr(), store.len());
                 let status = calls::capeshard_rewrite(
@@ -126,10 +127,9 @@ impl Reference {
         let query = read_query(&sheet(workload), NODES).expect("a sheet");
         let book = print_database(&workload.database());
         let database = read_database(&book, &vec![0; workload.database().store.len()]).expect("a book");
-        let query = match workload.step {
-            Some((kind, node)) => reference::rewrite::rewrite(&database, &query, kind, node).expect("an accepted step"),
-            None => query,
-        };
+        let step =
+            |held: Query, &(kind, node): &(u32, u32)| rewrite(&database, &held, kind, node).expect("an accepted step");
+        let query = workload.steps.iter().fold(query, step);
         let registers = plan_of(&query, &database).registers;
         let limit = workload.limit;
         let workspace = vec![0; workspace_entries(registers, limit)];

@@ -1,4 +1,4 @@
-//! What is measured: a query by its lines, the step that rewrites it, its tables, and the same question in SQL.
+//! What is measured: a query by its lines, the steps that rewrite it, its tables, and the same question in SQL.
 
 use reference::algebra::{Columns, Relation, Row};
 use reference::random::Random;
@@ -8,8 +8,8 @@ pub struct Workload {
     pub name: String,
     /// The lines of the sheet, as document 01 writes them.
     pub lines: String,
-    /// The kind and node that the engine rewrites the query by before it is run.
-    pub step: Option<(u32, u32)>,
+    /// The kinds and nodes that the engine rewrites the query by, one after another, before it is run.
+    pub steps: &'static [(u32, u32)],
     pub tables: Vec<(Columns, Relation)>,
     /// Tables are t0, t1, ..., their columns c0 to c7. The result's columns ascend.
     pub sql: String,
@@ -41,7 +41,7 @@ fn closure() -> Workload {
     Workload {
         name: "closure".to_string(),
         lines: format!("table=0 {STEP} fix=1"),
-        step: None,
+        steps: &[],
         tables: Vec::new(),
         sql: format!("{SQL_REACH} SELECT c0, c1 FROM r"),
         limit: TABLE_ROWS,
@@ -66,7 +66,7 @@ fn pushed(from: u32) -> Workload {
     let seed = format!("SELECT c0, c1 FROM t0 WHERE c0 = {from} UNION");
     Workload {
         name: "closure, filter pushed in by kind 1".to_string(),
-        step: Some((1, 11)),
+        steps: &[(1, 11)],
         sql: format!("{} SELECT c0, c1 FROM r", SQL_REACH.replace("SELECT c0, c1 FROM t0 UNION", &seed)),
         ..filtered(from)
     }
@@ -81,7 +81,7 @@ fn two_closures() -> Workload {
     Workload {
         name: "join of two closures".to_string(),
         lines: format!("table=0 {STEP} fix=1 table=1 {RIGHT_STEP} fix=2 pair=join"),
-        step: None,
+        steps: &[],
         tables: Vec::new(),
         sql: format!(
             "{SQL_REACH}, s(c0, c3) AS (SELECT c0, c3 FROM t1 UNION SELECT s.c0, t1.c3 FROM s JOIN t1 ON t1.c0 = s.c3) \
@@ -96,7 +96,7 @@ fn two_closures() -> Workload {
 fn merged_closures() -> Workload {
     Workload {
         name: "join of two closures, merged by kind 6".to_string(),
-        step: Some((6, 21)),
+        steps: &[(6, 21)],
         sql: "WITH RECURSIVE r(c0, c1, c3) AS (SELECT t0.c0, t0.c1, t1.c3 FROM t0 JOIN t1 ON t1.c0 = t0.c0 \
               UNION SELECT r.c0, t0.c1, r.c3 FROM r JOIN t0 ON t0.c0 = r.c1 \
               UNION SELECT r.c0, r.c1, t1.c3 FROM r JOIN t1 ON t1.c0 = r.c3) SELECT c0, c1, c3 FROM r"
@@ -105,12 +105,47 @@ fn merged_closures() -> Workload {
     }
 }
 
+const SQL_OTHER_REACH: &str =
+    "s(c0, c1) AS (SELECT c0, c1 FROM t2 UNION SELECT s.c0, t2.c1 FROM s JOIN t2 ON t2.c0 = s.c1)";
+
+/// Places of table 1 that are reached along table 0, and all that are reached along table 2, from one place on: the filter over the union
+/// of a join and a closure.
+fn two_ways(from: u32) -> Workload {
+    let other_step = STEP.replace("var=1", "var=2").replace("table=0", "table=2");
+    Workload {
+        name: "union of two closures, filter outside".to_string(),
+        lines: format!("table=0 {STEP} fix=1 table=1 pair=join table=2 {other_step} fix=2 pair=union eq=0,{from}"),
+        steps: &[],
+        tables: Vec::new(),
+        sql: format!(
+            "{SQL_REACH}, {SQL_OTHER_REACH} SELECT c0, c1 FROM (SELECT r.c0, r.c1 FROM r JOIN t1 ON t1.c1 = r.c1 UNION \
+             SELECT c0, c1 FROM s) WHERE c0 = {from}"
+        ),
+        limit: TABLE_ROWS,
+        indexes: &["t0(c0, c1)", "t1(c1)", "t2(c0, c1)"],
+        recursive: true,
+    }
+}
+
+/// The same with the filter copied to both sides, moved past the join and pushed into both recursions.
+fn two_ways_pushed(from: u32) -> Workload {
+    let seed = |table: &str| format!("SELECT c0, c1 FROM {table} WHERE c0 = {from} UNION");
+    let pushed = |sql: &str, table: &str| sql.replace(&format!("SELECT c0, c1 FROM {table} UNION"), &seed(table));
+    let (reach, other) = (pushed(SQL_REACH, "t0"), pushed(SQL_OTHER_REACH, "t2"));
+    Workload {
+        name: "union of two closures, filter pushed in by kinds 7, 8, 1 and 1".to_string(),
+        steps: &[(7, 24), (8, 13), (1, 11), (1, 24)],
+        sql: format!("{reach}, {other} SELECT r.c0, r.c1 FROM r JOIN t1 ON t1.c1 = r.c1 UNION SELECT c0, c1 FROM s"),
+        ..two_ways(from)
+    }
+}
+
 /// Steps that do not end at a place of table 1.
 fn except_inside() -> Workload {
     Workload {
         name: "except inside a recursion".to_string(),
         lines: format!("table=0 {STEP} table=1 pair=except fix=1"),
-        step: None,
+        steps: &[],
         tables: Vec::new(),
         sql: "WITH RECURSIVE r(c0, c1) AS (SELECT c0, c1 FROM t0 UNION SELECT r.c0, t0.c1 FROM r JOIN t0 ON t0.c0 = r.c1 \
               WHERE NOT EXISTS (SELECT 1 FROM t1 WHERE t1.c1 = t0.c1)) SELECT c0, c1 FROM r"
@@ -126,7 +161,7 @@ fn wide_closure() -> Workload {
     Workload {
         name: "closure of wide rows".to_string(),
         lines: format!("table=0 {} fix=1", STEP.replace("table=0", "table=1")),
-        step: None,
+        steps: &[],
         tables: Vec::new(),
         sql: "WITH RECURSIVE r(c0, c1, c3, c4, c5, c6, c7) AS (SELECT c0, c1, c3, c4, c5, c6, c7 FROM t0 \
               UNION SELECT r.c0, t1.c1, r.c3, r.c4, r.c5, r.c6, r.c7 FROM r JOIN t1 ON t1.c0 = r.c1) \
@@ -148,7 +183,7 @@ fn early_works() -> Workload {
     Workload {
         name: "period tour, max outside".to_string(),
         lines: format!("table=0 {} fix=1 max=4,1850", STEP.replace("table=0", "table=1")),
-        step: None,
+        steps: &[],
         tables: Vec::new(),
         sql: format!("{SQL_TOUR} SELECT c0, c1, c4 FROM r WHERE {EARLY}"),
         limit: TABLE_ROWS,
@@ -161,7 +196,7 @@ fn early_works() -> Workload {
 fn early_works_pushed() -> Workload {
     Workload {
         name: "period tour, max pushed in by kind 1".to_string(),
-        step: Some((1, 11)),
+        steps: &[(1, 11)],
         sql: format!("{} SELECT c0, c1, c4 FROM r", SQL_TOUR.replace("FROM t0", &format!("FROM t0 WHERE {EARLY}"))),
         ..early_works()
     }
@@ -171,7 +206,7 @@ fn wide_join() -> Workload {
     Workload {
         name: "join of wide rows".to_string(),
         lines: "table=0 table=1 pair=join".to_string(),
-        step: None,
+        steps: &[],
         tables: Vec::new(),
         sql: "SELECT t0.c0, t0.c1, t0.c2, t0.c3, t0.c4, t1.c5, t1.c6, t1.c7 FROM t0 JOIN t1 ON t1.c4 = t0.c4"
             .to_string(),
@@ -185,7 +220,7 @@ fn product() -> Workload {
     Workload {
         name: "cross product".to_string(),
         lines: "table=0 table=1 pair=join".to_string(),
-        step: None,
+        steps: &[],
         tables: Vec::new(),
         sql: "SELECT t0.c0, t1.c1 FROM t0, t1".to_string(),
         limit: TABLE_ROWS,
@@ -262,6 +297,11 @@ pub fn workloads() -> Vec<Workload> {
     }
     for workload in [two_closures(), merged_closures()] {
         found.push(workload.over("chains of 22 edges", vec![edges([0, 1], chain(22)), edges([0, 3], chain(22))]));
+    }
+    let open = list(1, (1..=91).filter(|place| place % 3 == 0));
+    for workload in [two_ways(1), two_ways_pushed(1)] {
+        let tables = vec![edges([0, 1], chain(90)), open.clone(), edges([0, 1], chain(60))];
+        found.push(workload.over("chains of 90 and 60 edges, 30 places open", tables));
     }
     let shut = list(1, (1..=110).filter(|place| place % 13 == 0));
     found.push(except_inside().over("grid of 10 by 11, 8 places shut", vec![edges([0, 1], grid(10, 11)), shut]));

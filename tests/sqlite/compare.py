@@ -36,7 +36,8 @@ ANSWER = TOP / "target" / "bin" / "answer"
 REFERENCE = TOP / "tests" / "reference" / "Cargo.toml"
 BATCH = 500
 STEPS = 50_000_000
-REFUSALS = range(1, 21)
+# All but that of a path's text.
+REFUSALS = {*range(1, 21), 22}
 # Sheets that tests/reference makes are checked, and their steps accepted, by construction: only a limit may be met.
 LIMITS = (18, 19)
 OPERANDS = {"table": 0, "var": 0, "fact": 0, "pair": 2, "fix": 2}

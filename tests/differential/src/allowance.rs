@@ -13,7 +13,7 @@ use reference::panel;
 use reference::plan::{execute, plan, Machine};
 use reference::random::{self, Random};
 use reference::run::workspace_entries;
-use reference::value::{refuse, Database, Query, Refusal, COLUMNS, NODES, TABLE_ROWS};
+use reference::value::{refuse, Database, Query, Refusal, COLUMNS, NODES, NUMBERS, TABLE_ROWS};
 
 /// Products that are asked for of a query and what it becomes, and of damaged slices.
 const ASKED: usize = 2;
@@ -23,7 +23,7 @@ const DAMAGED: usize = 2;
 #[derive(Default)]
 pub struct Met {
     /// Refusals by number, and those with 17 for one slice alone: query, database, plan or allowance.
-    numbers: [[u64; 22]; 2],
+    numbers: [[u64; NUMBERS + 1]; 2],
     short: [[u64; 4]; 2],
     /// Accepted ones at the desk with the row limits 1, 64 and 4,096.
     limits: [u64; 3],
@@ -88,7 +88,7 @@ impl Met {
         let [desk, panel] = &self.numbers;
         let at_both = [1, 2, 3, 9, 11, 17, 20].iter().all(|number| desk[*number] > 0 && panel[*number] > 0);
         let at_one = (4..=10).all(|number| desk[number] + panel[number] > 0) && desk[16] > 0;
-        let no_other = [12, 13, 14, 15, 18, 19, 21].iter().all(|number| desk[*number] + panel[*number] == 0);
+        let no_other = [12, 13, 14, 15, 18, 19, 21, 22].iter().all(|number| desk[*number] + panel[*number] == 0);
         let counts = [self.short.concat(), self.ends.concat(), self.limits.to_vec(), self.less.to_vec()].concat();
         let runs = counts.into_iter().chain(self.near).chain([self.whole]).all(|times| times > 0);
         at_both && at_one && no_other && panel[16] == 0 && runs

@@ -9,7 +9,7 @@ use reference::damage;
 use reference::panel;
 use reference::plan::{execute, plan};
 use reference::random::{self, Random};
-use reference::rewrite::{apply, rewrite};
+use reference::rewrite::{apply, rewrite, KINDS};
 use reference::run::workspace_entries;
 use reference::text::{print_database, print_query};
 use reference::value::{refuse, Database, Node, Query, COLUMNS, NODES, TABLES, TABLE_ROWS, VARIABLES};
@@ -17,7 +17,7 @@ use reference::value::{refuse, Database, Node, Query, COLUMNS, NODES, TABLES, TA
 pub type Input = (Call, Slices);
 
 /// Steps a query that are taken of those that fit.
-const FITTING: usize = 6;
+const FITTING: usize = 8;
 /// Row limit and budget of the run that tells what others need.
 pub const FREE: (usize, u32) = (400, 4000);
 
@@ -354,12 +354,12 @@ fn rewrites(random: &mut Random, at: At, query: &Query, database: &Database) -> 
     found
 }
 
-/// Some of the kinds and nodes that fit, so that 13 to 15 or acceptance follow.
+/// Some of the kinds and nodes that fit, so that 2, 13 to 15, 22 or acceptance follow.
 fn fitting(random: &mut Random, query: &Query, database: &Database) -> Vec<(u32, u32)> {
     let Ok(checked) = check(query, database.schema()) else {
         return Vec::new();
     };
-    let every = (1..=query.count).flat_map(|node| (1..=6).map(move |kind| (kind, node)));
+    let every = (1..=query.count).flat_map(|node| (1..=KINDS as u32).map(move |kind| (kind, node)));
     let fits = |&(kind, node): &(u32, u32)| apply(&checked, query, kind, node) != refuse(12, 0);
     let mut fitting: Vec<(u32, u32)> = every.filter(fits).collect();
     while fitting.len() > FITTING {

@@ -15,6 +15,7 @@ use reference::algebra::{Columns, Relation};
 use reference::check::check;
 use reference::plan::{execute, plan, Line, Operation};
 use reference::random::Random;
+use reference::rewrite::KINDS;
 use reference::run::workspace_entries;
 use reference::split::split;
 use reference::term::Term;
@@ -30,9 +31,9 @@ pub struct Met {
     accepted: [u64; CALLS],
     /// Refusals at a `last`: 1, 5, 9, and 12 by kind.
     numbers: [[u64; 3]; 2],
-    twelve: [[u64; 7]; 2],
+    twelve: [[u64; KINDS + 1]; 2],
     /// Accepted rewrites by kind.
-    kinds: [[u64; 7]; 2],
+    kinds: [[u64; KINDS + 1]; 2],
     /// Finished runs in which one dropped rows, and those in which it did so by the first, a middle or the highest column of several
     /// or by the only one.
     dropped: [u64; 2],
@@ -150,9 +151,9 @@ pub fn cases(random: &mut Random, tally: &mut Tally) {
         compared(tally, at.check(random, query.lines().len()), &slices);
         let (call, given) = run(random, at, &query, &database, slices.clone());
         compared(tally, call, &given);
-        for (node, kind) in lasts(&query, &database).into_iter().flat_map(|node| (1..=6).map(move |kind| (node, kind)))
-        {
-            compared(tally, at.rewrite_within(NODES, (kind, node)), &slices);
+        let kinds = |node| (1..=KINDS as u32).map(move |kind| (kind, node));
+        for step in lasts(&query, &database).into_iter().flat_map(kinds) {
+            compared(tally, at.rewrite_within(NODES, step), &slices);
         }
     }
 }
@@ -221,7 +222,7 @@ fn workload(lines: &str) -> Workload {
     Workload {
         name: lines.to_string(),
         lines: lines.to_string(),
-        step: None,
+        steps: &[],
         tables: vec![
             recordings(),
             apart(),

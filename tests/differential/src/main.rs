@@ -1,13 +1,14 @@
 //! Compares the engine with the reference, call by call: `differential SEED COUNT` on the inputs of COUNT seeds from SEED
 //! on. A case is one call: the reply and all lent slices afterwards, the rows of a path's run beside what the path links, the
-//! lines of a run beside the product, or steps on two branches beside the same in another order. A difference prints its seed and
-//! both sides. Then texts of at most one byte, the rows and lines run of each workload of bench/, lines of every code, a `last` over
+//! lines of a run beside the product, steps on two branches beside the same in another order, or the rows after a list of steps beside
+//! those before it. A difference prints its seed and both sides. Then texts of at most one byte, the rows and lines run of each workload of bench/, lines of every code, a `last` over
 //! 4,096 rows, and texts with each byte at each place. The last line is 'N passed, M failed'.
 
 mod allowance;
 mod at;
 mod branches;
 mod call;
+mod filters;
 mod inputs;
 mod last;
 mod measured;
@@ -78,6 +79,7 @@ fn main() -> ExitCode {
         allowance::cases(&mut Random::new(seed), &mut tally);
         last::cases(&mut Random::new(seed), &mut tally);
         branches::cases(&mut Random::new(seed), &mut tally);
+        filters::cases(&mut Random::new(seed), &mut tally);
         wrapper::cases(&mut Random::new(seed), &mut tally);
     }
     calls(&mut tally, inputs::shortest(&mut Random::new(seed)));

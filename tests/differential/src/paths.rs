@@ -15,7 +15,7 @@ use reference::random::paths::{
     database, fewest, linking, names, needless, nested, padded, past_a_power, path, path_of, text_of,
 };
 use reference::random::Random;
-use reference::value::{slots_of, Database, Refusal, COLUMNS, NODES, TABLES};
+use reference::value::{slots_of, Database, Refusal, COLUMNS, NODES, NUMBERS, TABLES};
 
 /// A path of more nodes has to be met.
 const MANY: u128 = 1 << 40;
@@ -24,7 +24,7 @@ const MANY: u128 = 1 << 40;
 #[derive(Default)]
 pub struct Met {
     /// Refusals by number, and 21 at the first byte, in the middle, after the end and at byte 129.
-    numbers: [[u64; 22]; 2],
+    numbers: [[u64; NUMBERS + 1]; 2],
     places: [[u64; 4]; 2],
     /// Accepted paths of 128 bytes, and refused ones of more.
     longest: [[u64; 2]; 2],

@@ -3,12 +3,14 @@
 use crate::allowance;
 use crate::branches;
 use crate::call::Call;
+use crate::filters;
 use crate::last;
 use crate::paths;
 use crate::slices::{database_of, has_last, has_mu, query_of, Slices, QUERY_ROOM};
 use reference::panel;
 use reference::properties::comes_home::{by_origin_alone, causes, CAUSES};
-use reference::value::{Refusal, NODES};
+use reference::rewrite::KINDS;
+use reference::value::{Refusal, NODES, NUMBERS};
 use std::fmt::Debug;
 
 /// Differences that are printed in full.
@@ -28,17 +30,17 @@ pub struct Tally {
     /// Accepted calls in the header's order.
     accepted: [u64; CALLS],
     /// At desk and panel: accepted rewrites by kind, refusals by number, and those of runs.
-    kinds: [[u64; 7]; 2],
-    numbers: [[u64; 22]; 2],
-    runs: [[u64; 22]; 2],
+    kinds: [[u64; KINDS + 1]; 2],
+    numbers: [[u64; NUMBERS + 1]; 2],
+    runs: [[u64; NUMBERS + 1]; 2],
     /// Accepted calls on queries with a `mu` in the header's order, and at desk and panel the accepted rewrites of such by kind and
     /// their refusals by number.
     mus: [u64; CALLS],
-    mu_kinds: [[u64; 7]; 2],
-    mu_numbers: [[u64; 22]; 2],
+    mu_kinds: [[u64; KINDS + 1]; 2],
+    mu_numbers: [[u64; NUMBERS + 1]; 2],
     /// At desk and panel: rewrites by kind that are accepted though a `drop` names a column that must be stable, and refusals with
     /// 13 by what the column comes from.
-    home_kinds: [[u64; 7]; 2],
+    home_kinds: [[u64; KINDS + 1]; 2],
     home_causes: [[u64; CAUSES.len()]; 2],
     /// The most nodes, rows and lines run of a finished run at desk and panel.
     most: [[u32; 3]; 2],
@@ -50,6 +52,7 @@ pub struct Tally {
     pub allowance: allowance::Met,
     pub last: last::Met,
     pub branches: branches::Met,
+    pub filters: filters::Met,
 }
 
 impl Tally {
@@ -175,13 +178,15 @@ impl Tally {
         self.allowance.print();
         self.last.print();
         self.branches.print();
+        self.filters.print();
     }
 
     /// A case of its own: every call was accepted and at desk and panel every kind; every number was given, 16 never at the
     /// panel; runs were refused over each limit, and at the panel some finished with the most nodes and rows; filters met 0, and
     /// runs finished over a book of zero bytes. Queries with a `mu` met every call but those that read a path or a database and
     /// every kind, 20 at both, and 3 to 10 at one or the other. Columns came home under every kind that asks for stable ones, and
-    /// 13 had every cause at desk and panel. Paths, products, last issues and two branches met what they had to.
+    /// 13 had every cause at desk and panel. Paths, products, last issues, two branches and filters past ordinary lines met what they
+    /// had to.
     pub fn all_met(&mut self) {
         let accepted = self.accepted.iter().chain(self.kinds.iter().flat_map(|kinds| &kinds[1..]));
         let given = self.numbers[0][1..].iter();
@@ -197,13 +202,13 @@ impl Tally {
         let most = self.most[1][..2] == [panel::NODES as u32, panel::ROW_LIMIT];
         let zeros = self.unknown > 0 && self.empty > 0;
         let requests = self.paths.all_met() && self.allowance.all_met();
-        let later = self.last.all_met() && self.branches.all_met();
+        let later = self.last.all_met() && self.branches.all_met() && self.filters.all_met();
         if met && mu_numbers && self.numbers[1][16] == 0 && most && zeros && requests && later {
             self.passed += 1;
         } else {
             println!(
                 "FAILED every call and kind is accepted, every number given, every limit, 0 under filters, an empty book, mu, \
-                columns that come home, paths, products, last issues and two branches met"
+                columns that come home, paths, products, last issues, two branches and filters past lines met"
             );
             self.failed += 1;
         }

@@ -14,7 +14,7 @@ use reference::panel;
 use reference::paths::read_path;
 use reference::plan::{self, plan, Operation};
 use reference::random::branches::{self, Step};
-use reference::random::{self, Random};
+use reference::random::{self, filters, Random};
 use reference::rewrite::rewrite;
 use reference::run::{self, run, workspace_entries};
 use reference::text::{print_database, print_query, read_database, read_query};
@@ -170,8 +170,11 @@ pub fn cases(random: &mut Random, tally: &mut Tally) {
         paths(random, tally);
     }
     two_branches(random, tally);
+    past_lines(random, tally);
 }
 
+/// Steps of a query with filters over ordinary lines.
+const STEPS: usize = 5;
 /// Row limit of the run that tells what a query's columns hold.
 const MOST: usize = 40;
 
@@ -323,6 +326,27 @@ fn two_branches(random: &mut Random, tally: &mut Tally) {
     let (ends, (mut swapped, held)) = (made([one, other]), made([other, one]));
     swapped.reverse();
     tally.case(|| format!("{at:?}: {one:?} and {other:?} in both orders of {lines:?}"), &ends, &(swapped, held));
+}
+
+/// Steps of all kinds, each at desk or panel, on a query with filters over ordinary lines. Half of these have as many nodes as the panel
+/// or the desk takes, or one less.
+fn past_lines(random: &mut Random, tally: &mut Tally) {
+    let database = random::database(random);
+    let most = At::BOTH[usize::from(!random.once_in(4))].nodes();
+    let split = most - random.below(2);
+    let mut query = match random.below(2) {
+        0 => filters::query_of(random, database.schema(), most, split),
+        _ => filters::query(random, database.schema(), NODES),
+    };
+    let stored = capeshard::Database::of(&tables_of(&database)).expect("the tables have a place");
+    let mut held = capeshard::Query::of(&lines_of(&query)).expect("the lines have a place");
+    for _ in 0..STEPS {
+        let lines = check(&query, database.schema()).map_or(Vec::new(), |checked| checked.lines());
+        let at = At::BOTH[random.below(2)];
+        if let Some(made) = random.pick(random::likely(&lines)) {
+            step(tally, at, made, (&database, &mut query), (&stored, &mut held));
+        }
+    }
 }
 
 /// The product at desk or panel, a run that often has it as its budget, and one with one line less than that runs. Whether the

@@ -5,6 +5,7 @@ mod comes_home;
 mod in_one_piece;
 mod last_issues;
 mod on_the_panel;
+mod ordinary_lines;
 mod paths;
 
 use crate::algebra::{Columns, Pairing, Relation};
@@ -24,7 +25,7 @@ pub fn examples() -> Vec<Outcome> {
     };
     let base = [starred(), exact_queries(), exact_plans(), lent()].concat();
     let requests = [on_the_panel::examples(), in_one_piece::examples(), comes_home::examples(), paths::examples()];
-    let later = [allowance::examples(), last_issues::examples()];
+    let later = [allowance::examples(), last_issues::examples(), ordinary_lines::examples()];
     [base, requests.concat(), later.concat()].concat().into_iter().map(outcome).collect()
 }
 

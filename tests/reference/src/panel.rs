@@ -42,8 +42,7 @@ pub fn check(database: &Database, query: &Query) -> Result<Checked, Refusal> {
 }
 
 pub fn rewrite(database: &Database, query: &Query, kind: u32, node: u32) -> Result<Query, Refusal> {
-    fits(database, query)?;
-    rewrite::rewrite(database, query, kind, node)
+    rewrite::rewrite_within(NODES, database, query, kind, node)
 }
 
 pub fn compile(database: &Database, query: &Query) -> Result<Plan, Refusal> {

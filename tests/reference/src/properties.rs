@@ -7,6 +7,7 @@ mod desk_and_panel;
 mod first_day;
 mod last_issues;
 mod one_piece;
+mod ordinary_lines;
 mod paths;
 mod two_branches;
 
@@ -17,19 +18,19 @@ use crate::damage;
 use crate::meaning::meaning_of;
 use crate::plan::{execute, plan, Line, Machine, Operation};
 use crate::random::{self, Random};
-use crate::rewrite::{apply, rewrite};
+use crate::rewrite::{apply, rewrite, KINDS};
 use crate::run::{run, workspace_entries, Answer};
 use crate::selfcheck::{shown, Outcome};
 use crate::text::{print_answer, print_database, print_query, print_steps, read_database, read_query, NO_TABLES};
-use crate::value::{slots_of, Database, Node, Query, Refusal, COLUMNS};
+use crate::value::{slots_of, Database, Node, Query, Refusal, COLUMNS, NUMBERS};
 
 /// What random inputs have met: accepted rewrites by kind, refusals by number, filters over rows with a 0 in their column and
 /// those of them that were pushed into a recursion, and what bytes of lines, books of zero bytes, desk and panel, recursions typed
-/// in one piece, columns that come home, property paths, products, last issues and two branches have.
+/// in one piece, columns that come home, property paths, products, last issues, two branches and filters past ordinary lines have.
 #[derive(Default)]
 pub struct Coverage {
-    pub kinds: [u32; 7],
-    pub numbers: [u32; 22],
+    pub kinds: [u32; KINDS + 1],
+    pub numbers: [u32; NUMBERS + 1],
     pub unknown: [u32; 2],
     pub bytes: bytes::Met,
     pub first_day: first_day::Met,
@@ -40,6 +41,7 @@ pub struct Coverage {
     pub allowance: allowance::Met,
     pub last_issues: last_issues::Met,
     pub two_branches: two_branches::Met,
+    pub ordinary_lines: ordinary_lines::Met,
 }
 
 impl Coverage {
@@ -49,7 +51,7 @@ impl Coverage {
 
     /// Each kind was accepted and each number given; filters met 0, also in a recursion; what bytes of lines and books of zero
     /// bytes met, the panel's share of it, and that of recursions typed in one piece, of columns that come home, of property paths,
-    /// of products, of last issues and of two branches.
+    /// of products, of last issues, of two branches and of filters past ordinary lines.
     pub fn outcomes(&self) -> Vec<Outcome> {
         let seen = format!("accepted by kind {:?}, refused by number {:?}", &self.kinds[1..], &self.numbers[1..]);
         let full = self.kinds[1..].iter().chain(&self.numbers[1..]).all(|times| *times > 0);
@@ -60,7 +62,7 @@ impl Coverage {
         let single = vec![all, unknown, self.bytes.outcome(), self.first_day.outcome(), self.panel.outcome()];
         let of_requests = [self.one_piece.outcomes(), self.comes_home.outcomes(), self.paths.outcomes()].concat();
         let later = [self.allowance.outcomes(), self.last_issues.outcomes(), self.two_branches.outcomes()].concat();
-        [single, of_requests, later].concat()
+        [single, of_requests, later, self.ordinary_lines.outcomes()].concat()
     }
 }
 
@@ -73,7 +75,7 @@ fn outcome(name: &str, met: bool, seen: String) -> Outcome {
 type Verdict = Result<bool, String>;
 type Property = fn(&mut Random, &mut Coverage) -> Verdict;
 
-const PROPERTIES: [(&str, Property); 50] = [
+const PROPERTIES: [(&str, Property); 53] = [
     ("a printed query is read back", queries_are_read_back),
     ("a printed database is read back", databases_are_read_back),
     ("a query's refusal names its first bad line", first_bad_line_of_a_query),
@@ -93,7 +95,7 @@ const PROPERTIES: [(&str, Property); 50] = [
     ("answer prints the meaning", answers),
     ("the panel reads texts as the desk up to 32 nodes", desk_and_panel::texts),
     ("the panel replies as the desk up to 32 nodes", desk_and_panel::replies),
-    ("steps made at desk and panel give one query", desk_and_panel::lists_of_rewrites),
+    ("steps made at desk and panel give one query as long as the panel takes it", desk_and_panel::lists_of_rewrites),
     ("desk and panel give one answer", desk_and_panel::runs),
     ("the panel's row limit is exact", desk_and_panel::row_limits),
     ("the panel's workspace is enough", desk_and_panel::workspaces),
@@ -124,6 +126,9 @@ const PROPERTIES: [(&str, Property); 50] = [
     ("two steps on two branches reply and end alike in both orders", two_branches::pairs),
     ("so they do at desk and panel, and what refuses a query or database refuses both", two_branches::anywhere),
     ("two lists on two branches reply as alone and end alike by any turns", two_branches::by_turns),
+    ("a filter goes past a line by its pattern, or is refused, and keeps the node's rows", ordinary_lines::steps),
+    ("a kind 7 finds room for its node exactly below the limit of answer, panel and desk", ordinary_lines::limits),
+    ("a list of all kinds within any limits adds a node a kind 7 and keeps the meaning", ordinary_lines::lists),
 ];
 
 /// One test a property, each on the seeds from `seed` on.
@@ -531,12 +536,12 @@ fn every_rewrite(coverage: &mut Coverage, database: &Database, query: &Query, ch
     let before = meaning_of(query, &tables, MOST);
     let split = checked.root.node;
     for node in 0..=query.count + 1 {
-        for kind in 0..=7 {
+        for kind in 0..=KINDS as u32 + 1 {
             let rewritten = match apply(checked, query, kind, node) {
                 Ok(rewritten) => rewritten,
                 Err(refusal) => {
                     coverage.refused(refusal);
-                    let known = (12..=15).contains(&refusal.number) && refusal.place == 0;
+                    let known = matches!(refusal.number, 2 | 12..=15 | 22) && refusal.place == 0;
                     ensure(known, &format!("{refusal:?}"), query, database)?;
                     if refusal.number == 13 {
                         coverage.comes_home.refused(checked, kind, node);
@@ -552,7 +557,8 @@ fn every_rewrite(coverage: &mut Coverage, database: &Database, query: &Query, ch
             };
             let columns = after.columns(&after.root) == checked.columns(&checked.root);
             ensure(columns, &format!("{step}: other columns"), query, database)?;
-            let kept = rewritten.count as usize == split && rewritten.nodes[split..] == query.nodes[split..];
+            let count = split + usize::from(kind == 7);
+            let kept = rewritten.count as usize == count && rewritten.nodes[count..] == query.nodes[count..];
             ensure(kept, &format!("{step}: another count or other entries past it"), query, database)?;
             if let (Some(before), Some(after)) = (&before, meaning_of(&rewritten, &tables, MOST)) {
                 ensure(*before == after, &format!("{step}: another meaning"), query, database)?;
@@ -616,8 +622,9 @@ fn answers(random: &mut Random, coverage: &mut Coverage) -> Verdict {
         };
         coverage.refused(Refusal { number, place });
         let few = query.count <= 24;
-        let known =
-            damaged || matches!(number, 12..=15 | 18) && few && place == 0 || (number, place, few) == (2, 2, false);
+        let known = damaged
+            || matches!(number, 2 | 12..=15 | 18 | 22) && few && place == 0
+            || (number, place, few) == (2, 2, false);
         return if known { Ok(true) } else { Err(told()) };
     }
     if damaged {

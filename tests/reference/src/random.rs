@@ -1,9 +1,12 @@
-//! Random inputs from fixed seeds: databases, queries that are checked by construction, steps, two branches, property paths.
+//! Random inputs from fixed seeds: databases, queries that are checked by construction, steps, two branches, filters over ordinary
+//! lines, property paths.
 
 pub mod branches;
+pub mod filters;
 pub mod paths;
 
 use crate::algebra::{Columns, Condition, Pairing, Relation, Row};
+use crate::rewrite::KINDS;
 use crate::split::split;
 use crate::term::Term;
 use crate::text::nodes;
@@ -58,7 +61,7 @@ impl Random {
     }
 }
 
-fn relation(random: &mut Random, columns: &Columns) -> Relation {
+pub fn relation(random: &mut Random, columns: &Columns) -> Relation {
     let (rows, values) = if random.once_in(80) { (random.below(40), 12) } else { (random.below(7), 5) };
     (0..rows).map(|_| columns.iter().map(|c| (*c, random.cell(values))).collect()).collect()
 }
@@ -292,10 +295,10 @@ impl<'a> Maker<'a> {
 
     /// Something that often is what a kind of rewrite looks at.
     fn first(&mut self, size: usize) -> Piece {
-        if self.random.once_in(4) {
-            self.closed(size)
-        } else {
-            self.redex(size)
+        match self.random.below(8) {
+            0 | 1 => self.closed(size),
+            2 => self.filtered(size),
+            _ => self.redex(size),
         }
     }
 
@@ -826,16 +829,24 @@ pub fn node(random: &mut Random) -> Node {
     }
 }
 
-/// The kinds that look at a line, each with the line's node, and kind 1 at each `last`.
+/// The kinds that look at a line of a split query and at the one under it, each with the line's node. Those at filters are taken at
+/// each `last` too, and kind 1 whatever stands under it.
 pub fn likely(lines: &[Node]) -> Vec<(u32, u32)> {
-    let kinds = |line: &Node| match line {
-        Node::Filter(_) | Node::Last(_) => &[1][..],
-        Node::Pair(Pairing::Join) => &[2, 3, 6],
-        Node::Pair(Pairing::Except) => &[4],
-        Node::Drop(_) => &[5],
+    let kinds = |line: &Node, under: Option<&Node>| match (line, under) {
+        (Node::Filter(_) | Node::Last(_), Some(Node::Pair(Pairing::Union))) => &[1, 7][..],
+        (Node::Filter(_) | Node::Last(_), Some(Node::Pair(Pairing::Join))) => &[1, 8, 9],
+        (Node::Filter(_) | Node::Last(_), Some(Node::Pair(Pairing::Except))) => &[1, 10],
+        (Node::Filter(_) | Node::Last(_), Some(Node::Filter(_) | Node::Last(_))) => &[1, 11],
+        (Node::Filter(_) | Node::Last(_), _) => &[1],
+        (Node::Pair(Pairing::Join), _) => &[2, 3, 6],
+        (Node::Pair(Pairing::Except), _) => &[4],
+        (Node::Drop(_), _) => &[5],
         _ => &[],
     };
-    lines.iter().zip(1..).flat_map(|(line, node)| kinds(line).iter().map(move |kind| (*kind, node))).collect()
+    // The operand of a line that has one ends with the line before it.
+    let under = std::iter::once(None).chain(lines.iter().map(Some));
+    let at = |((line, under), node)| kinds(line, under).iter().map(move |kind| (*kind, node));
+    lines.iter().zip(under).zip(1..).flat_map(at).collect()
 }
 
 /// A list of steps, most of them at lines of the split query that a kind looks at, some at such lines as typed.
@@ -846,7 +857,7 @@ pub fn steps(random: &mut Random, query: &Query) -> Vec<(u32, u32)> {
         .map(|_| match random.pick(likely.iter().copied()) {
             Some(step) if !random.once_in(6) => step,
             _ if random.once_in(6) => (random.next(), random.next()),
-            _ => (random.below(8) as u32, random.below(query.count as usize + 2) as u32),
+            _ => (random.below(KINDS + 2) as u32, random.below(query.count as usize + 2) as u32),
         })
         .collect()
 }

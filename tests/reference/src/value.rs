@@ -8,6 +8,9 @@ pub const VARIABLES: u8 = 16;
 pub const NODES: usize = 128;
 pub const TABLE_ROWS: u32 = 4096;
 
+/// The highest number given to editors.
+pub const NUMBERS: usize = 22;
+
 /// A number given to editors and its place.
 #[derive(Clone, Copy, Debug, PartialEq, Eq)]
 pub struct Refusal {
@@ -82,9 +85,14 @@ impl Query {
         &self.nodes[..self.count as usize]
     }
 
+    /// The most nodes that it may have.
+    pub fn most(&self) -> usize {
+        self.nodes.len().min(NODES)
+    }
+
     /// 2 with place 0, then 1 with the lowest node off the form.
     pub fn form(&self) -> Result<(), Refusal> {
-        if self.count == 0 || self.count as usize > self.nodes.len().min(NODES) {
+        if self.count == 0 || self.count as usize > self.most() {
             return refuse(2, 0);
         }
         match self.lines().iter().position(|node| !node.on_the_form()) {

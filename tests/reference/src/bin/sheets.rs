@@ -3,7 +3,7 @@
 //! has zero bytes.
 
 use reference::answer::NODES;
-use reference::random::{self, Random};
+use reference::random::{self, filters, Random};
 use reference::rewrite::rewrite;
 use reference::text::{print_database, print_query, print_steps};
 use std::path::Path;
@@ -15,7 +15,9 @@ const ROUNDS: usize = 8;
 fn write(folder: &Path, seed: u64) -> std::io::Result<()> {
     let random = &mut Random::new(seed);
     let database = random::database(random);
-    let query = random::query(random, database.schema(), NODES);
+    // Half of the sheets have filters over ordinary lines.
+    let sheet = if random.once_in(2) { random::query } else { filters::query };
+    let query = sheet(random, database.schema(), NODES);
     let mut held = query.clone();
     let mut accepted = Vec::new();
     for _ in 0..ROUNDS {

@@ -11,7 +11,7 @@ use crate::plan::{execute, plan, run_lines};
 use crate::random::{self, Random};
 use crate::run::{run, workspace_entries};
 use crate::selfcheck::Outcome;
-use crate::value::{refuse, Database, Node, Query, Refusal, COLUMNS, NODES, TABLE_ROWS};
+use crate::value::{refuse, Database, Node, Query, Refusal, COLUMNS, NODES, NUMBERS, TABLE_ROWS};
 
 /// Damaged inputs to one that is not.
 const DAMAGED: usize = 4;
@@ -78,7 +78,7 @@ pub struct Met {
     /// Runs of the whole product, the row limit being 1: without a fix and with one.
     whole: [u32; 2],
     /// Refusals by number.
-    numbers: [[u32; 22]; 2],
+    numbers: [[u32; NUMBERS + 1]; 2],
 }
 
 impl Met {

@@ -8,7 +8,7 @@ use crate::meaning::{meaning, meaning_of, meaning_on_path};
 use crate::origins::{origins, stable};
 use crate::plan::{execute, plan};
 use crate::random::{self, Random};
-use crate::rewrite::{apply, apply_by, rewrite};
+use crate::rewrite::{apply, apply_by, rewrite, KINDS};
 use crate::selfcheck::{shown, Outcome};
 use crate::term::Term;
 use crate::text::print_query;
@@ -313,7 +313,7 @@ fn rearranged(random: &mut Random, database: &Database, first: &Query) -> Result
         accepted.retain(|(kind, node)| apply(&checked, &held, *kind, *node).is_ok());
         let step = match random.pick(accepted) {
             Some(step) if !random.once_in(6) => step,
-            _ => (random.below(8) as u32, random.below(held.count as usize + 2) as u32),
+            _ => (random.below(KINDS + 2) as u32, random.below(held.count as usize + 2) as u32),
         };
         by_origin |= alone(&checked, &held, step.0, step.1);
         held = rewrite(&other, &held, step.0, step.1).unwrap_or(held);

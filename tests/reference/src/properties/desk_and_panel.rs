@@ -6,12 +6,12 @@ use crate::damage;
 use crate::meaning::meaning_of;
 use crate::panel;
 use crate::plan::plan;
-use crate::random::{self, Random};
-use crate::rewrite::rewrite;
+use crate::random::{self, filters, Random};
+use crate::rewrite::{rewrite, KINDS};
 use crate::run::{run, workspace_entries, Answer};
 use crate::selfcheck::{shown, Outcome};
 use crate::text::{print_query, read_query};
-use crate::value::{refuse, slots_of, Database, Node, Query, Refusal, COLUMNS, NODES};
+use crate::value::{refuse, slots_of, Database, Node, Query, Refusal, COLUMNS, NODES, NUMBERS};
 
 /// Damaged inputs to one that is not.
 const DAMAGED: usize = 4;
@@ -20,13 +20,15 @@ const DAMAGED: usize = 4;
 #[derive(Default)]
 pub struct Met {
     /// Steps that the panel accepted by kind, and its refusals by number.
-    kinds: [u32; 7],
-    numbers: [u32; 22],
+    kinds: [u32; KINDS + 1],
+    numbers: [u32; NUMBERS + 1],
     /// Texts and checked values with one node too many for the panel alone.
     one_more: [u32; 2],
     /// Runs that both finished, that 18 ended at the panel alone, at the desk alone; and those after steps that both finished.
     runs: [u32; 3],
     runs_after_steps: u32,
+    /// Lists of steps by which a query of the panel outgrows it at the desk.
+    outgrown: u32,
     /// The most registers of a run at the panel.
     registers: usize,
 }
@@ -39,12 +41,12 @@ impl Met {
     /// Everything was met, of the numbers all but 16.
     pub fn outcome(&self) -> Outcome {
         let (kinds, numbers) = (&self.kinds[1..], &self.numbers[1..]);
-        let counts = [&self.one_more[..], &self.runs, &[self.runs_after_steps]].concat();
+        let counts = [&self.one_more[..], &self.runs, &[self.runs_after_steps, self.outgrown]].concat();
         let registers = self.registers;
         let seen = format!(
             "accepted by kind {kinds:?}, refused by number {numbers:?}, one node too many {:?}, both finished or one {:?}, \
-            after steps {}, at most {registers} registers",
-            self.one_more, self.runs, self.runs_after_steps
+            after steps {}, outgrown at the desk {}, at most {registers} registers",
+            self.one_more, self.runs, self.runs_after_steps, self.outgrown
         );
         let given = (1..).zip(numbers).all(|(number, times)| (*times > 0) == (number != 16));
         let full = kinds.iter().chain(&counts).all(|times| *times > 0);
@@ -66,9 +68,10 @@ pub fn input(random: &mut Random) -> (Database, Query) {
     }
     let database = random::database(random);
     let nodes = about(random, panel::NODES);
-    let query = match random.below(4) {
+    let query = match random.below(6) {
         0 => random::query_of(random, database.schema(), nodes),
         1 => random::query_of_fixes(random, database.schema(), nodes),
+        2 => filters::query_of(random, database.schema(), NODES, nodes),
         _ => random::query(random, database.schema(), NODES),
     };
     (database, query)
@@ -111,6 +114,14 @@ pub fn due<T>(query: &Query, desk: Result<T, Refusal>) -> Result<T, Refusal> {
     }
 }
 
+/// The same of a step, which may leave one node too many.
+fn due_of_step(query: &Query, desk: Result<Query, Refusal>) -> Result<Query, Refusal> {
+    match due(query, desk)? {
+        left if too_long(&left) => refuse(2, 0),
+        left => Ok(left),
+    }
+}
+
 pub fn replies(random: &mut Random, coverage: &mut Coverage) -> Verdict {
     let (database, query) = input(random);
     one_reply(random, coverage, &database, &query)?;
@@ -150,7 +161,7 @@ fn one_reply(random: &mut Random, coverage: &mut Coverage, database: &Database, 
         return Err(told("compiled"));
     }
     for (kind, node) in [0; 2].map(|_| random::steps(random, query)).concat() {
-        let desk = due(query, rewrite(database, query, kind, node));
+        let desk = due_of_step(query, rewrite(database, query, kind, node));
         if panel::rewrite(database, query, kind, node) != desk {
             return Err(told(&format!("step={kind},{node}")));
         }
@@ -177,15 +188,24 @@ pub fn lists_of_rewrites(random: &mut Random, coverage: &mut Coverage) -> Verdic
     if too_long(&first) {
         return Ok(false);
     }
+    let lines = check(&first, database.schema()).map_or(Vec::new(), |checked| checked.lines());
+    // Where there are any, one that adds a node.
+    let adding = random.pick(random::likely(&lines).into_iter().filter(|(kind, _)| *kind == 7));
     let mut steps: Vec<Step> = Vec::new();
-    for (kind, node) in [0; 3].map(|_| random::steps(random, &first)).concat() {
+    for (kind, node) in adding.into_iter().chain([0; 3].map(|_| random::steps(random, &first)).concat()) {
         steps.push((random::with_columns_of(random, &database), kind, node));
     }
-    let last = held(&first, &steps, || rewrite);
-    ensure(held(&first, &steps, || panel::rewrite) == last, "another query at the panel", &first, &database)?;
-    let mixed = held(&first, &steps, || if random.once_in(2) { rewrite } else { panel::rewrite });
-    ensure(mixed == last, "another query by turns", &first, &database)?;
+    let at_desk = held(&first, &steps, || rewrite);
+    let last = held(&first, &steps, || panel::rewrite);
     ensure(!too_long(&last), "too long for the panel", &first, &database)?;
+    // No step takes a node away but the first that splits, so the desk's queries were all as short as its last.
+    if too_long(&at_desk) {
+        coverage.panel.outgrown += 1;
+    } else {
+        ensure(last == at_desk, "another query at the panel", &first, &database)?;
+        let mixed = held(&first, &steps, || if random.once_in(2) { rewrite } else { panel::rewrite });
+        ensure(mixed == last, "another query by turns", &first, &database)?;
+    }
     let database = random::with_columns_of(random, &database);
     let before = desk_run(&database, &first, MOST as u32, u32::MAX);
     let after = (desk_run(&database, &last, MOST as u32, u32::MAX), panel_run(&database, &last, u32::MAX));

@@ -70,8 +70,8 @@ pub fn first_days(random: &mut Random, coverage: &mut Coverage) -> Verdict {
         return Err(wrong("checked"));
     };
     let (Some(rows), false) = (meaning_of(&query, &[], MOST), printed.starts_with("refused=")) else {
-        let known = ["12", "13", "14", "15", "18"].map(|number| format!("refused={number},0\n"));
-        ensure(known.contains(&printed), &wrong("one of 12 to 15 and 18"), &query, &none)?;
+        let known = ["2", "12", "13", "14", "15", "18", "22"].map(|number| format!("refused={number},0\n"));
+        ensure(known.contains(&printed), &wrong("one of 2, 12 to 15, 18 and 22"), &query, &none)?;
         return Ok(false);
     };
     ensure(prints(&printed, &checked, &rows), &wrong("the meaning"), &query, &none)?;

@@ -7,7 +7,7 @@ use crate::check::{check, Checked};
 use crate::meaning::{meaning, meaning_of};
 use crate::plan::{execute, plan, Operation};
 use crate::random::{self, Random};
-use crate::rewrite::apply;
+use crate::rewrite::{apply, KINDS};
 use crate::selfcheck::Outcome;
 use crate::split::split;
 use crate::term::Term;
@@ -67,9 +67,9 @@ pub struct Met {
     /// 5 and 9 at another node than as typed.
     moved: [u32; 2],
     /// 12 at a `last` by kind; accepted steps by kind, those of them where one drops rows, and lists of two or more.
-    twelve: [u32; 7],
-    kinds: [u32; 7],
-    dropping: [u32; 7],
+    twelve: [u32; KINDS + 1],
+    kinds: [u32; KINDS + 1],
+    dropping: [u32; KINDS + 1],
     lists: u32,
 }
 
@@ -398,7 +398,7 @@ fn taken(query: &Query, database: &Database, checked: &Checked) -> Result<(), St
 /// The most steps of a list.
 const LONGEST: usize = 3;
 /// Kinds that there are not.
-const NO_KINDS: [u32; 4] = [0, 7, 12, u32::MAX];
+const NO_KINDS: [u32; 3] = [0, KINDS as u32 + 1, u32::MAX];
 
 /// Each kind gets 12 at each `last`. A step that is accepted elsewhere, and a list of such, keeps every `last` and the rows, also over
 /// another database with the same columns.
@@ -406,7 +406,7 @@ pub fn steps(random: &mut Random, coverage: &mut Coverage) -> Verdict {
     let (database, query, checked) = issued(random, 40)?;
     let met = &mut coverage.last_issues;
     for term in checked.root.nodes().into_iter().filter(|term| is_last(term)) {
-        for kind in (1..=6).chain(NO_KINDS) {
+        for kind in (1..=KINDS as u32).chain(NO_KINDS) {
             let found = apply(&checked, &query, kind, term.node as u32);
             ensure(found == refuse(12, 0), &format!("step={kind},{}: {found:?}", term.node), &query, &database)?;
             if let Some(times) = met.twelve.get_mut(kind as usize) {
@@ -439,9 +439,11 @@ pub fn steps(random: &mut Random, coverage: &mut Coverage) -> Verdict {
     Ok(has_last(&query))
 }
 
-/// The query that steps leave has the same `last` lines, and the same rows over each database.
+/// The query that steps leave is checked and has the same `last` lines, and the same rows over each database.
 fn keeps(query: &Query, left: &Query, databases: &[Database], step: &str) -> Result<(), String> {
     for database in databases {
+        let checked = check(left, database.schema()).is_ok();
+        ensure(checked, &format!("{step}: not checked any more"), query, database)?;
         ensure(lasts(left) == lasts(query), &format!("{step}: another last"), query, database)?;
         let rows = |query: &Query| meaning_of(query, &database.relations(), MOST);
         if let (Some(before), Some(after)) = (rows(query), rows(left)) {

@@ -8,7 +8,7 @@ use crate::meaning::{meaning, meaning_of};
 use crate::panel;
 use crate::plan::{execute, plan};
 use crate::random::{self, Random};
-use crate::rewrite::{apply, rewrite};
+use crate::rewrite::{apply, rewrite, KINDS};
 use crate::run::{run, workspace_entries};
 use crate::selfcheck::Outcome;
 use crate::split::split;
@@ -75,7 +75,7 @@ pub struct Met {
     numbers: [u32; 21],
     moved: [u32; 21],
     /// Accepted steps by kind, those at a node that is another line as typed, and those that split a `mu` elsewhere.
-    kinds: [u32; 7],
+    kinds: [u32; KINDS + 1],
     kinds_moved: u32,
     elsewhere: u32,
     /// Answers with rows, and queries too long for a limit that their split is within: of a text, of a value and at the panel.
@@ -374,7 +374,7 @@ pub fn rewrites(random: &mut Random, coverage: &mut Coverage) -> Verdict {
     let of_split = apart(&query, &lines);
     let checked_split = check(&of_split, database.schema()).map_err(|refusal| format!("{refusal:?}"))?;
     for node in 0..=query.count + 1 {
-        for kind in 1..=6 {
+        for kind in 1..=KINDS as u32 {
             let (found, due) = (apply(&checked, &query, kind, node), apply(&checked_split, &of_split, kind, node));
             let step = format!("step={kind},{node}");
             let Ok(rewritten) = found else {
@@ -384,7 +384,7 @@ pub fn rewrites(random: &mut Random, coverage: &mut Coverage) -> Verdict {
             let same = due.is_ok_and(|due| due.lines() == rewritten.lines());
             ensure(same, &format!("{step}: another query"), &query, &database)?;
             ensure(!has_mu(&rewritten), &format!("{step}: a mu is left"), &query, &database)?;
-            let past = lines.len();
+            let past = lines.len() + usize::from(kind == 7);
             ensure(rewritten.count as usize == past, &format!("{step}: another count"), &query, &database)?;
             let kept = rewritten.nodes[past..] == query.nodes[past..];
             ensure(kept, &format!("{step}: other entries past the count"), &query, &database)?;

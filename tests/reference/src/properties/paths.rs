@@ -17,7 +17,7 @@ use crate::random::paths::{
 use crate::random::Random;
 use crate::selfcheck::{shown, Outcome};
 use crate::text::{nodes, print_database, print_query, print_refusal, read_database};
-use crate::value::{refuse, Database, Node, Query, Refusal, COLUMNS, NODES, TABLES};
+use crate::value::{refuse, Database, Node, Query, Refusal, COLUMNS, NODES, NUMBERS, TABLES};
 
 /// Forms of a part of a path that have to be met.
 const FORMS: [(&str, fn(&Path) -> bool); 13] = [
@@ -72,7 +72,7 @@ pub struct Met {
     /// Whole and unfinished texts of 128 bytes, then such of 129.
     lengths: [u32; 4],
     /// Refusals of paths by number at desk and panel, and those of the program.
-    numbers: [[u32; 22]; 3],
+    numbers: [[u32; NUMBERS + 1]; 3],
     /// 10 with a later name that would get 9, and the other way round.
     first_names: [u32; 2],
     /// Sheets of as many nodes as the limit, and paths of one node more, at a desk's limit, at its highest and at the panel.

@@ -13,7 +13,7 @@ use crate::random::{self, Random};
 use crate::rewrite::{apply, rewrite};
 use crate::selfcheck::Outcome;
 use crate::term::Term;
-use crate::value::{Database, Node, Query, Refusal};
+use crate::value::{self, Database, Node, Query, Refusal};
 
 /// Steps of a query that are at any node, beside those at lines that a kind looks at.
 const ANY: usize = 4;
@@ -49,7 +49,7 @@ pub struct Met {
     under: [u32; 4],
     /// At desk and panel: both accepted, one of them and none on a checked query; what a refused one gets by number.
     places: [[u32; 3]; 2],
-    numbers: [[u32; 22]; 2],
+    numbers: [[u32; value::NUMBERS + 1]; 2],
     /// Steps that the panel takes only after one at the desk, which has another limit.
     limits: u32,
     /// Lists with accepted steps on both sides, of these at the panel too, with several on both, with a refused step, and with one that
@@ -192,9 +192,9 @@ fn branching(random: &mut Random) -> Result<(Database, Query, Checked), String> 
     Ok((database, query, checked))
 }
 
-/// Steps at lines that a kind looks at and some others, by node. Some numbers are no node.
+/// Steps of kinds 1 to 6 at lines that they look at and some others, by node. Some numbers are no node.
 fn steps_of(random: &mut Random, checked: &Checked) -> Vec<Step> {
-    let mut steps = random::likely(&checked.lines());
+    let mut steps = branches::commuting(&checked.lines());
     steps.extend((0..ANY).map(|_| (1 + random.below(6) as u32, random.below(checked.root.node + 2) as u32)));
     steps.sort_by_key(|(_, node)| *node);
     steps

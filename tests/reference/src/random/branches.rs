@@ -107,10 +107,15 @@ impl Maker<'_> {
     }
 }
 
-/// The steps on a checked query at lines that a kind looks at, by reply: accepted, 13 to 15, 12.
+/// The steps of kinds 1 to 6, which are those that commute, at lines that they look at.
+pub fn commuting(lines: &[Node]) -> Vec<Step> {
+    likely(lines).into_iter().filter(|(kind, _)| *kind <= 6).collect()
+}
+
+/// Such steps on a checked query by reply: accepted, 13 to 15, 12.
 fn by_reply(checked: &Checked, query: &Query) -> [Vec<Step>; 3] {
     let mut found: [Vec<Step>; 3] = Default::default();
-    for (kind, node) in likely(&checked.lines()) {
+    for (kind, node) in commuting(&checked.lines()) {
         let reply = match apply(checked, query, kind, node) {
             Ok(_) => 0,
             Err(Refusal { number: 12, .. }) => 2,
@@ -140,7 +145,7 @@ pub fn pair(random: &mut Random, schema: &[Columns], query: &Query) -> [Step; 2]
     let nodes = root.as_ref().map_or(NODES.min(query.count as usize), |root| root.node);
     let steps = match check(query, schema) {
         Ok(checked) => by_reply(&checked, query),
-        Err(_) => [Vec::new(), Vec::new(), likely(&lines)],
+        Err(_) => [Vec::new(), Vec::new(), commuting(&lines)],
     };
     let one = picked(random, &steps, nodes, |_| true);
     let at = one.1 as usize;
