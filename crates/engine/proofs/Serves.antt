@@ -3,7 +3,10 @@ use mathlib.Core.Path.{_≡_}
 use mathlib.Core.List.{List}
 use Prim.Native.Nat.{ℕ, _+_, _≤_, _<_}
 use native.Mathlib.Omega.{arith}
+use Rattle.algebra.specs.Term.{Term}
+use Rattle.algebra.specs.Columns.{size}
 use Rattle.database.specs.declared.Database.{Database}
+use Rattle.database.specs.Refusals.{accepted}
 use Rattle.query.specs.declared.Query.{Query}
 use Rattle.query.specs.Check.{checkOver}
 use Rattle.query.proofs.NodeLimits.{check-over-limits}
@@ -12,11 +15,12 @@ use Rattle.plan.proofs.NodeLimits.{compile-limits}
 use Rattle.rewrite.specs.Rewrite.{rewrite, Step, held}
 use Rattle.rewrite.proofs.NodeLimits.{rewrite-limits, addedBy, held-count}
 
--- each call replies the same under both limits: number and place, the plan, the very sheet; of kind 7 where both have room for a node more
+-- each call replies the same under both limits: number and place, the plan, the very sheet; of kind 7 where the split sheet has room under both
 pub record Serves (w limit limit′ : ℕ) (q : Query) : Type 0 where
   pub checks : (d : Database) (store : List ℕ) → checkOver w limit q d store ≡ checkOver w limit′ q d store
   pub compiles : (d : Database) (store : List ℕ) → compile w limit q d store ≡ compile w limit′ q d store
-  pub rewrites : (d : Database) (store : List ℕ) (k n : ℕ) → (k ≡ 7 → (q .count < limit) × (q .count < limit′))
+  pub rewrites : (d : Database) (store : List ℕ) (k n : ℕ)
+      → (k ≡ 7 → (t : Term) → checkOver w limit q d store ≡ accepted t → (size t < limit) × (size t < limit′))
       → rewrite w limit q d store k n ≡ rewrite w limit′ q d store k n
 
 serves : (w limit limit′ : ℕ) (q : Query) → q .count ≤ limit → q .count ≤ limit′ → Serves w limit limit′ q

@@ -59,14 +59,12 @@ module _ (q : Query) (limit limit′ : ℕ) (e : leb (q .count) limit ≡ leb (q
       by-check (accepted t) i = by-node t (λ h. room h t i) (endedAt (lines t) n)
 
 pub rewrite-limits : (q : Query) (limit limit′ : ℕ) → q .count ≤ limit → q .count ≤ limit′
-    → (w : ℕ) (d : Database) (store : List ℕ) (k n : ℕ) → (k ≡ 7 → (q .count < limit) × (q .count < limit′))
+    → (w : ℕ) (d : Database) (store : List ℕ) (k n : ℕ)
+    → (k ≡ 7 → (t : Term) → checkOver w limit q d store ≡ accepted t → (size t < limit) × (size t < limit′))
     → rewrite w limit q d store k n ≡ rewrite w limit′ q d store k n
 rewrite-limits q limit limit′ h h′ w d store k n room =
     rewrite-agree q limit limit′ (both-within (q .count) limit limit′ h h′) w d store k n
-    (λ i t over.
-    let few = term-few (check-over-iff w limit q d store t .0 over .1) in
-    let (r, r′) = room i in
-    lt-ltb (size t) limit (omega arith) ∙ sym (lt-ltb (size t) limit′ (omega arith)))
+    (λ i t over. let (r, r′) = room i t over in lt-ltb (size t) limit r ∙ sym (lt-ltb (size t) limit′ r′))
 
 -- what a step leaves has at most the node more that kind 7 adds
 pub step-count : (w limit : ℕ) (q : Query) (d : Database) (store : List ℕ) (k n : ℕ) (r : Reply Query) → rewrite w limit q d store k n ≡ r
@@ -101,7 +99,11 @@ unfolding held
 held-anywhere w limit q [] h few = refl
 held-anywhere w limit q (s ∷ steps) h (few, more) =
     let one : s .kind ≡ 7 → added (s .kind) ≡ 1 = λ i. rw (eq-eqb (s .kind) 7 i) in
-    let same = rewrite-limits q (s .limit) limit (omega arith) (omega arith) w (s .database) (s .store) (s .kind) (s .node) (λ i. let a = one i in (omega arith, omega arith)) in
+    let same = rewrite-limits q (s .limit) limit (omega arith) (omega arith) w (s .database) (s .store) (s .kind) (s .node)
+    (λ i t over.
+    let a = one i in
+    let f = term-few (check-over-iff w (s .limit) q (s .database) (s .store) t .0 over .1) in
+    (omega arith, omega arith)) in
     let n = step-count w (s .limit) q (s .database) (s .store) (s .kind) (s .node) (replied w q s) refl in
     held-anywhere w limit (handedBack q (replied w q s)) steps (omega arith) (each-map steps (λ x g. omega arith) more)
     ∙ ap (λ (r : Reply Query). held w (handedBack q r) (map (madeUnder limit) steps)) same
