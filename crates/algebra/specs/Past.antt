@@ -15,8 +15,8 @@ use Rattle.algebra.specs.WellFormed.{Each}
 -- what a kind finds: a filter, and the operands of the line that it goes past
 pub data Past : Type 0 where
   past-union : Condition → Term → Term → Past  -- 7, "a filter over a union copied to both sides"
-  past-left : Condition → Term → Term → Past  -- 8 and 9, "move a filter over a join to the left or right side"
-  past-right : Condition → Term → Term → Past
+  past-left : Condition → Term → Term → Past  -- 8, of "Kinds 8 and 9 move a filter over a join to the left or right side"
+  past-right : Condition → Term → Term → Past  -- 9
   past-except : Condition → Term → Term → Past  -- "Kind 10 moves it over an except to the left"
   past-filter : Condition → Condition → Term → Past  -- "11 exchanges two filters": the upper, the lower
 

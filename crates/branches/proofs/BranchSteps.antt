@@ -12,7 +12,7 @@ use Rattle.algebra.specs.Term.{Term}
 use Rattle.algebra.specs.Columns.{Cols, noCols, Schema, cols, size}
 use Rattle.algebra.proofs.Sizes.{size-positive}
 use Rattle.algebra.proofs.Redex.{matched}
-use Rattle.algebra.proofs.Written.{written-size, written-columns}
+use Rattle.algebra.proofs.Written.{written-columns}
 use Rattle.database.specs.declared.Database.{Database}
 use Rattle.database.specs.declared.Refusal.the-variants.{NoMatch}
 use Rattle.database.specs.Stored.{schema, checkDatabase}
@@ -27,7 +27,7 @@ use Rattle.query.proofs.CheckedOver.{check-over-iff}
 use Rattle.query.proofs.SplitSheet.{lines-back, with-again}
 use Rattle.rewrite.specs.Rewrite.{around, rule, endedAt, replaced, withNodes, rewrite, handedBack, Step}
 use Rattle.rewrite.proofs.RewriteExact.{Allows, by-rule, by-past, allows-iff}
-use Rattle.rewrite.proofs.AfterStep.{step-checked}
+use Rattle.rewrite.proofs.AfterStep.{none-added, allows-size, step-checked}
 use Rattle.rewrite.proofs.Inside.{Inside, puts, own-lines, within-lines, puts-lines, inside-found, found-inside}
 use Rattle.branches.specs.Branches.{splitLines, Apart, stepped, Commute}
 use Rattle.branches.proofs.Beside.{Clear, first, last, same-ended, around-beside}
@@ -130,11 +130,7 @@ module _ (w limit : ℕ) (d : Database) (store : List ℕ) where
       pub same-columns : (C : Cols) → cols G C b ≡ cols G C a
       pub checked : checkOver w limit (withNodes q (replaced (lines t) n a b)) d store ≡ accepted (puts here b)
 
-    -- what a rule of kinds 1 to 6 writes is as large as what it finds, and has its columns, whatever the variable's
-    rule-size : {k n : ℕ} {a b : Term} → Allows w limit q d store t over k n a b → k ≤ 6 → size b ≡ size a
-    rule-size {k} {a = a} (by-rule _ m found _ _ _) low = written-size m ∙ ap size (sym (matched k a found))
-    rule-size (by-past high _ _ _ _) low = absurd (omega arith)
-
+    -- what a rule of kinds 1 to 6 writes has the columns of what it finds, whatever the variable's
     rule-columns : {k n : ℕ} {a b : Term} → Allows w limit q d store t over k n a b → k ≤ 6 → (C : Cols) → cols G C b ≡ cols G C a
     rule-columns {k} {a = a} (by-rule _ m found _ _ _) low C = written-columns G C m ∙ ap (cols G C) (sym (matched k a found))
     rule-columns (by-past high _ _ _ _) low C = absurd (omega arith)
@@ -146,7 +142,7 @@ module _ (w limit : ℕ) (d : Database) (store : List ℕ) where
         let here = found-inside t n a (m .at) in
         record {
           here = here;
-          same-size = rule-size allows low;
+          same-size = let z = none-added k low in omega (arith, allows-size w limit q d store t over k n a (m .at) allows);
           same-columns = rule-columns allows low;
           checked =
               check-over-iff w limit _ d store (puts here b) .1

@@ -6,7 +6,7 @@ use Prim.Native.Nat.{ℕ, _≤_}
 use native.Mathlib.Omega.{arith}
 use native.Mathlib.Decide.{decLe}
 use lib.Dec.{leb}
-use borrow.Author.Tests.{lt-leb, ne-eqb}
+use borrow.Author.Tests.{lt-leb}
 use Rattle.algebra.specs.Term.{Term}
 use Rattle.database.specs.declared.Database.{Database}
 use Rattle.database.specs.declared.Refusal.{Refusal}
@@ -15,8 +15,9 @@ use Rattle.query.specs.declared.Query.{Query}
 use Rattle.query.specs.Check.{checkOver}
 use Rattle.query.proofs.NodeLimits.{both-within, accepted-within}
 use Rattle.rewrite.specs.Rewrite.{rewrite, handedBack, Step, replied}
+use Rattle.rewrite.proofs.AfterStep.{none-added}
 use Rattle.rewrite.proofs.Held.{checked-first}
-use Rattle.rewrite.proofs.NodeLimits.{rewrite-agree, added, step-count}
+use Rattle.rewrite.proofs.NodeLimits.{rewrite-agree, step-count}
 use Rattle.branches.specs.Branches.{Apart, stepped, Given, Commute}
 use Rattle.branches.proofs.BranchSteps.{stepAt, checked-commute}
 
@@ -72,7 +73,7 @@ module _ (w limit : ℕ) (d : Database) (store : List ℕ) where
           let (t, over) = checked-first w (x .limit) q (x .database) (x .store) (x .kind) (x .node) p e in
           let here : q .count ≤ limit = g .taken .0 (accepted-within w (x .limit) q (x .database) (x .store) t over) in
           let there : q .count ≤ s .limit = h .taken .1 here in
-          let none : added (x .kind) ≡ 0 = rw (ne-eqb (x .kind) 7 (λ i. omega arith)) in
+          let none = none-added (x .kind) low in
           let fewer = step-count w (x .limit) q (x .database) (x .store) (x .kind) (x .node) (accepted p) e in
           record { same-database = h .same-database; same-store = h .same-store; taken = ((λ _. omega arith), (λ _. omega arith)) }
 

@@ -1,6 +1,5 @@
 -- What a kind finds at a node by its line is what its rule matches in the node's term.
 use mathlib.Core.Path.{_≡_, refl, ap, ap₂, sym, _∙_}
-use mathlib.Core.Bool.{Bool, true, false}
 use mathlib.Core.Option.{Option, some, none}
 use mathlib.Core.List.{[]}
 use Prim.Native.Nat.{ℕ, _+_, _-_, _≤_}
@@ -8,6 +7,7 @@ use native.Mathlib.Omega.{arith}
 use lib.Dec.{eqb}
 use lib.ListN.{length}
 use Rattle.laws.specs.Lists.{if_then_else_}
+use Rattle.laws.proofs.Options.{if-map}
 use Rattle.algebra.specs.declared.Pairing.{Pairing}
 use Rattle.algebra.specs.declared.Pairing.the-variants.{Union, Join, Except}
 use Rattle.algebra.specs.Term.{Term, table, var, fact, pair, filter, copy, drop, last as latest, fix, mu}
@@ -44,11 +44,6 @@ foundOf s (fix-fix x y) = FixFix (last s (fixOf x)) (last (s + size (fixOf x)) (
 abbrev pub found : ℕ → Option Match → Found
 found s none = Nothing
 found s (some m) = foundOf s m
-
--- the same test on both sides
-pick : (s : ℕ) (b : Bool) {m n : Found} (o p : Option Match) → m ≡ found s o → n ≡ found s p → (if b then m else n) ≡ found s (if b then o else p)
-pick s true o p e f = e
-pick s false o p e f = f
 
 -- an operand is a fix by its line or by its term
 over-found : (q : Query) (s n : ℕ) (b : Term) → lineAt q (last n b) ≡ root b → (m : Found) (mk : Loop → Match) → ((x : Loop) → fixOf x ≡ b → m ≡ foundOf s (mk x))
@@ -133,27 +128,27 @@ module _ (d : Database) (limit : ℕ) (q : Query) (t : Term) (checked : Checked 
   found-at {s = s} (pair Union a b) h = ap (lineFound q facts k (last s (pair Union a b))) (line h)
   found-at {s = s} (pair Join a b) h =
       ap (lineFound q facts k (last s (pair Join a b))) (line h) ∙ ap₂ join (left-is h) (right-is h)
-      ∙ pick s (eqb k 2) (over (λ x. fix-join x b) (loopOf a)) _
+      ∙ if-map (found s) (eqb k 2) (over (λ x. fix-join x b) (loopOf a)) _
       (over-found q s s a (left-line h) _ (λ x. fix-join x b) (λ x e. ap (λ (y : Term). FixJoin (last s y) (last (s + size y) b)) (sym e)))
-      (pick s (eqb k 3) (over (join-fix a) (loopOf b)) _
+      (if-map (found s) (eqb k 3) (over (join-fix a) (loopOf b)) _
       (over-found q s (s + size a) b (right-line h) _ (join-fix a) (λ x e. ap (λ (y : Term). JoinFix (last s a) (last (s + size a) y)) (sym e)))
-      (pick s (eqb k 6) (overBoth (loopOf a) (loopOf b)) none (both-found q s a b (left-line h) (right-line h)) refl))
+      (if-map (found s) (eqb k 6) (overBoth (loopOf a) (loopOf b)) none (both-found q s a b (left-line h) (right-line h)) refl))
   found-at {s = s} (pair Except a b) h =
       ap (lineFound q facts k (last s (pair Except a b))) (line h) ∙ ap₂ except (left-is h) (right-is h)
-      ∙ pick s (eqb k 4) (over (λ x. fix-except x b) (loopOf a)) none
+      ∙ if-map (found s) (eqb k 4) (over (λ x. fix-except x b) (loopOf a)) none
       (over-found q s s a (left-line h) _ (λ x. fix-except x b) (λ x e. ap (λ (y : Term). FixExcept (last s y) (last (s + size y) b)) (sym e))) refl
   found-at {s = s} (filter f a) h =
       let e : rightOf (last s (filter f a)) ≡ last s a = omega arith in
       ap (lineFound q facts k (last s (filter f a))) (line h)
       ∙ ap (λ (j : ℕ). if eqb k 1 then overFix q j (FilterFix f j) else Nothing) e
-      ∙ pick s (eqb k 1) (over (filter-fix f) (loopOf a)) none
+      ∙ if-map (found s) (eqb k 1) (over (filter-fix f) (loopOf a)) none
       (over-found q s s a (line (filter-down d q t (checked .written) h)) _ (filter-fix f) (λ x e. ap (λ (y : Term). FilterFix f (last s y)) (sym e))) refl
   found-at {s = s} (copy c x a) h = ap (lineFound q facts k (last s (copy c x a))) (line h)
   found-at {s = s} (drop c a) h =
       let e : rightOf (last s (drop c a)) ≡ last s a = omega arith in
       ap (lineFound q facts k (last s (drop c a))) (line h)
       ∙ ap (λ (j : ℕ). if eqb k 5 then overFix q j (DropFix c j) else Nothing) e
-      ∙ pick s (eqb k 5) (over (drop-fix c) (loopOf a)) none
+      ∙ if-map (found s) (eqb k 5) (over (drop-fix c) (loopOf a)) none
       (over-found q s s a (line (drop-down d q t (checked .written) h)) _ (drop-fix c) (λ x e. ap (λ (y : Term). DropFix c (last s y)) (sym e))) refl
   found-at {s = s} (latest c a) h = ap (lineFound q facts k (last s (latest c a))) (line h)
   found-at {s = s} (fix v a b) h = ap (lineFound q facts k (last s (fix v a b))) (line h)

@@ -1,12 +1,11 @@
 -- What a kind from 7 to 11 finds at a node by its line is what its rule finds in the node's term.
 use mathlib.Core.Path.{_≡_, refl, ap, _∙_}
-use mathlib.Core.Bool.{Bool, true, false}
 use mathlib.Core.Option.{Option, some, none}
 use Prim.Native.Nat.{ℕ, _≤_}
 use native.Mathlib.Omega.{arith}
 use lib.Dec.{eqb}
 use lib.ListN.{length}
-use Rattle.laws.specs.Lists.{if_then_else_}
+use Rattle.laws.proofs.Options.{if-map}
 use Rattle.algebra.specs.declared.Pairing.the-variants.{Union, Join, Except}
 use Rattle.algebra.specs.declared.Condition.{Condition}
 use Rattle.algebra.specs.Term.{Term, table, var, fact, pair, filter, copy, drop, last as latest, fix, mu}
@@ -38,20 +37,15 @@ abbrev pub passed : Option Past → Passed
 passed none = Nothing
 passed (some m) = passedOf m
 
--- the same test on both sides
-pick : (b : Bool) {m n : Passed} (o p : Option Past) → m ≡ passed o → n ≡ passed p → (if b then m else n) ≡ passed (if b then o else p)
-pick true o p e f = e
-pick false o p e f = f
-
 under-is : (k : ℕ) (f : Condition) (a : Term) → underPassed k f (root a) ≡ passed (underFilter k f a)
 unfolding underFilter pastPair
 under-is k f (table x) = refl
 under-is k f (var x) = refl
 under-is k f (fact c x) = refl
-under-is k f (pair Union a b) = pick (eqb k 7) (some (past-union f a b)) none refl refl
-under-is k f (pair Join a b) = pick (eqb k 8) (some (past-left f a b)) _ refl (pick (eqb k 9) (some (past-right f a b)) none refl refl)
-under-is k f (pair Except a b) = pick (eqb k 10) (some (past-except f a b)) none refl refl
-under-is k f (filter g a) = pick (eqb k 11) (some (past-filter f g a)) none refl refl
+under-is k f (pair Union a b) = if-map passed (eqb k 7) (some (past-union f a b)) none refl refl
+under-is k f (pair Join a b) = if-map passed (eqb k 8) (some (past-left f a b)) _ refl (if-map passed (eqb k 9) (some (past-right f a b)) none refl refl)
+under-is k f (pair Except a b) = if-map passed (eqb k 10) (some (past-except f a b)) none refl refl
+under-is k f (filter g a) = if-map passed (eqb k 11) (some (past-filter f g a)) none refl refl
 under-is k f (copy c x a) = refl
 under-is k f (drop c a) = refl
 under-is k f (latest c a) = refl

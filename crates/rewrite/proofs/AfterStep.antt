@@ -15,7 +15,7 @@ use Rattle.algebra.specs.Term.{Term}
 use Rattle.algebra.specs.Columns.{Cols, noCols, Schema, size}
 use Rattle.algebra.specs.WellFormed.{Closed}
 use Rattle.algebra.specs.Rules.{Match, match}
-use Rattle.algebra.specs.Past.{addsNode, moved}
+use Rattle.algebra.specs.Past.{moved}
 use Rattle.algebra.specs.Conditions.{OperandClosed}
 use Rattle.algebra.proofs.Sizes.{size-positive}
 use Rattle.algebra.proofs.Narrow.{Narrow}
@@ -23,7 +23,7 @@ use Rattle.algebra.proofs.Redex.{redex, matched}
 use Rattle.algebra.proofs.Written.{written-size}
 use Rattle.algebra.proofs.Conditions.{stable-iff, unused-iff, closed-iff}
 use Rattle.algebra.proofs.Sound.{rule-sound}
-use Rattle.algebra.proofs.PastRules.{pastNode, past-found, past-adds, past-sound, moved-size}
+use Rattle.algebra.proofs.PastRules.{past-found, past-adds, past-sound, moved-size}
 use Rattle.algebra.proofs.Swap.{Swap, swap-sound, swap-wellformed}
 use Rattle.database.specs.declared.Database.{Database}
 use Rattle.database.specs.Stored.{schema}
@@ -45,6 +45,13 @@ use Rattle.rewrite.proofs.NodeParts.{part-narrow, part-closed, around-n
 use Rattle.rewrite.proofs.RewriteExact.{Room, Allows, by-rule, by-past}
 use Rattle.rewrite.proofs.Inside.{Inside, puts, Place, place, puts-lines, puts-more, found-inside}
 use Rattle.rewrite.proofs.SwapInside.{swap-inside}
+
+-- what a kind adds: "Kind 7 adds a node", the others none
+abbrev pub added : ℕ → ℕ
+added k = if eqb k 7 then 1 else 0
+
+pub none-added : (k : ℕ) → k ≤ 6 → added k ≡ 0
+none-added k h = rw (ne-eqb k 7 (λ e. omega arith))
 
 module _ (w limit : ℕ) (q : Query) (d : Database) (store : List ℕ) (t : Term) (over : checkOver w limit q d store ≡ accepted t) (k n : ℕ)
     (a : Term) (e : endedAt (lines t) n ≡ some a) where
@@ -76,22 +83,19 @@ module _ (w limit : ℕ) (q : Query) (d : Database) (store : List ℕ) (t : Term
   allows-form (by-rule i m found h g j) f = form-written m (subst (λ (x : Term). OnForm w (lines x)) (matched k a found) f)
   allows-form (by-past i m found h g) f = form-moved m (subst (λ (x : Term). OnForm w (lines x)) (past-found k a found) f)
 
-  -- "Kind 7 adds a node", the others none
-  pub allows-size : {b : Term} → Allows w limit q d store t over k n a b → size b ≡ size a + (if eqb k 7 then 1 else 0)
-  allows-size (by-rule i m found h g j) = let f = written-size m ∙ ap size (sym (matched k a found)) in rw (ne-eqb k 7 (λ e. omega arith)) (omega arith)
+  -- what is written is larger by that much
+  pub allows-size : {b : Term} → Allows w limit q d store t over k n a b → size b ≡ size a + added k
+  allows-size (by-rule i m found h g j) = let f = written-size m ∙ ap size (sym (matched k a found)) in let z = none-added k i in omega arith
   allows-size (by-past i m found h g) = rw (past-found k a found, ← past-adds k a found) (moved-size m)
 
   -- and there is room for it
-  allows-room : {b : Term} → Allows w limit q d store t over k n a b → size t + size b ≤ limit + size a
-  allows-room (by-rule i m found h g j) =
-      let f = written-size m ∙ ap size (sym (matched k a found)) in
-      omega (arith, few-checked w limit q d store t over)
-  allows-room (by-past i m found h g) = by-test (addsNode m) h (ap size (past-found k a found)) (moved-size m)
+  allows-room : {b : Term} → Allows w limit q d store t over k n a b → size t + added k ≤ limit
+  allows-room (by-rule i m found h g j) = let z = none-added k i in omega (arith, few-checked w limit q d store t over)
+  allows-room (by-past i m found h g) = by-test (eqb k 7) (λ j. h (past-adds k a found ∙ j))
     where
-      by-test : (adds : Bool) → (adds ≡ true → Room w limit q d store t over k n) → size a ≡ size (pastNode m)
-          → size (moved m) ≡ size (pastNode m) + (if adds then 1 else 0) → size t + size (moved m) ≤ limit + size a
-      by-test true room i j = let less = room refl in omega arith
-      by-test false room i j = omega (arith, few-checked w limit q d store t over)
+      by-test : (adds : Bool) → (adds ≡ true → Room w limit q d store t over k n) → size t + (if adds then 1 else 0) ≤ limit
+      by-test true room = let less = room refl in omega arith
+      by-test false room = omega (arith, few-checked w limit q d store t over)
 
   module _ (b : Term) (allows : Allows w limit q d store t over k n a b) where
     abbrev here : Inside a n t
@@ -102,6 +106,10 @@ module _ (w limit : ℕ) (q : Query) (d : Database) (store : List ℕ) (t : Term
 
     pub step-swap : Swap G noCols t (puts here b)
     step-swap = swap-inside G noCols here b (allows-swap allows)
+
+    -- how many lines there are then
+    pub step-length : length (replaced (lines t) n a b) ≡ size t + added k
+    step-length = omega (arith, ap length (puts-lines here b), size-lines (puts here b), puts-more here b, allows-size allows)
 
     form : OnForm w (lines (puts here b))
     form =
@@ -116,10 +124,8 @@ module _ (w limit : ℕ) (q : Query) (d : Database) (store : List ℕ) (t : Term
     step-checked =
         let ns = replaced (lines t) n a b in
         let now : ns ≡ lines (puts here b) = sym (puts-lines here b) in
-        let long : length ns ≡ size (puts here b) = ap length now ∙ size-lines (puts here b) in
-        let room = allows-room allows in
         well-checked (record {
-          in-range = (omega (arith, size-positive (puts here b)), omega (arith, puts-more here b));
+          in-range = (omega (arith, step-length, size-positive t), omega (arith, step-length, allows-room allows));
           on-form = λ i h. subst (λ (l : List Node). onForm w (getD l i (Table 0)) ≡ true) (sym (lines-back q ns ∙ now)) (form-at form (Table 0) i (omega (arith, ap length now)));
           written = lines-back q ns ∙ now;
           well-formed = swap-wellformed step-swap (checkedNow .well-formed);

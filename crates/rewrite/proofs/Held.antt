@@ -1,11 +1,8 @@
 -- What a list of steps keeps: the held sheet is checked over the first book's columns, and its term may be put for the first sheet's.
-use mathlib.Core.Path.{_≡_, refl, ap, sym, subst}
+use mathlib.Core.Path.{_≡_, refl, ap, sym, _∙_, subst}
 use mathlib.Core.List.{List, [], _∷_}
 use Prim.Native.Nat.{ℕ, _+_, _≤_}
 use native.Mathlib.Omega.{arith}
-use lib.Dec.{eqb}
-use lib.ListN.{length}
-use Rattle.laws.specs.Lists.{if_then_else_}
 use Rattle.laws.proofs.EachMember.{Each}
 use Rattle.algebra.specs.Term.{Term}
 use Rattle.algebra.specs.Columns.{noCols, Schema, size}
@@ -16,14 +13,13 @@ use Rattle.database.specs.Refusals.{Reply, refused, accepted}
 use Rattle.database.proofs.Replies.{accepted-then}
 use Rattle.query.specs.declared.Query.{Query}
 use Rattle.query.specs.Check.{checkOver}
-use Rattle.query.proofs.Reading.{size-lines}
 use Rattle.query.proofs.CheckReply.{CheckedSplit}
 use Rattle.query.proofs.CheckedOver.{check-over-iff}
 use Rattle.query.proofs.NodeLimits.{checked-within, one-term}
 use Rattle.rewrite.specs.Rewrite.{rewrite, handedBack, Step, replied, held}
 use Rattle.rewrite.proofs.RewriteExact.{Accepted, accepted-iff}
-use Rattle.rewrite.proofs.Inside.{puts, puts-lines, puts-more, found-inside}
-use Rattle.rewrite.proofs.AfterStep.{allows-size, step-swap, step-checked}
+use Rattle.rewrite.proofs.Inside.{puts, found-inside}
+use Rattle.rewrite.proofs.AfterStep.{added, step-swap, step-length, step-checked}
 
 -- an accepted step was given a checked sheet
 pub checked-first : (w limit : ℕ) (q : Query) (d : Database) (store : List ℕ) (k n : ℕ) (p : Query) → rewrite w limit q d store k n ≡ accepted p
@@ -45,17 +41,8 @@ module _ (w limit : ℕ) (q : Query) (d : Database) (store : List ℕ) (t : Term
       (step-checked w limit q d store t over k n (x .node) (x .ends) (x .writes) (x .allows))
 
   -- "Node count never changes", by kinds 1 to 6 and 8 to 11; "Kind 7 adds a node"
-  pub node-count : p .count ≡ size t + (if eqb k 7 then 1 else 0)
-  node-count =
-      let here = found-inside t n (x .node) (x .ends) in
-      omega (
-        arith,
-        ap (λ (r : Query). r .count) (x .hands),
-        ap length (puts-lines here (x .writes)),
-        size-lines (puts here (x .writes)),
-        puts-more here (x .writes),
-        allows-size w limit q d store t over k n (x .node) (x .ends) (x .allows),
-      )
+  pub node-count : p .count ≡ size t + added k
+  node-count = ap (λ (r : Query). r .count) (x .hands) ∙ step-length w limit q d store t over k n (x .node) (x .ends) (x .writes) (x .allows)
 
   -- an accepted step leaves a sheet within its limit
   pub step-within : p .count ≤ limit

@@ -6,7 +6,7 @@ use mathlib.Core.List.{List, [], _∷_, map}
 use mathlib.Core.Option.{Option, some, none}
 use Prim.Native.Nat.{ℕ, _+_, _≤_, _<_}
 use native.Mathlib.Omega.{arith}
-use lib.Dec.{eqb, leb, ltb}
+use lib.Dec.{leb, ltb}
 use borrow.Author.Tests.{lt-ltb, eq-eqb}
 use Rattle.laws.specs.Lists.{if_then_else_}
 use Rattle.laws.proofs.EachMember.{Each, each-map}
@@ -25,11 +25,8 @@ use Rattle.query.proofs.NodeLimits.{both-within, check-over-agree}
 use Rattle.rewrite.specs.Rewrite.{around, rule, ruleOf, endedAt, replaced, withNodes, rewrite, handedBack, Step, replied, held}
 use Rattle.rewrite.proofs.PastExact.{past-room}
 use Rattle.rewrite.proofs.RewriteExact.{accepted-iff}
+use Rattle.rewrite.proofs.AfterStep.{added}
 use Rattle.rewrite.proofs.Held.{checked-first, node-count}
-
--- what a kind adds
-abbrev pub added : ℕ → ℕ
-added k = if eqb k 7 then 1 else 0
 
 -- the limits agree on the query, also where it is within neither, and on the room that kind 7 asks for
 module _ (q : Query) (limit limit′ : ℕ) (e : leb (q .count) limit ≡ leb (q .count) limit′) (w : ℕ) (d : Database) (store : List ℕ) (k n : ℕ)
