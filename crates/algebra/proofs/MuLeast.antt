@@ -39,4 +39,5 @@ mu_least {G} v a p T ρ = by_case (split_case v (split a)) p ((split_meaning (mu
 
     by_case : {b : Term} → SplitCase v (split a) b → Closed G b → Equal (meaning T (mu v a) ρ) (meaning T b ρ)
         → Least empty (λ S. meaning T a (bind ρ v S)) (meaning T (mu v a) ρ)
+    by_case (stays _) c e = elim c [ ]
     by_case (becomes _ i) c e = least_parted (typed (split_parted T i v ρ ρ same)) e (least_fixpoint c T ρ)

@@ -1,7 +1,8 @@
 // The words of the algebra that lines and terms share. No code.
+#![tactic(auto)]
 
 // The two-operand operators: `pair=union`, `pair=join`, `pair=except`.
-#[derive(Drop)]
+#[derive(Clone, Copy)]
 pub enum Pairing {
     Union,
     Join,
@@ -9,7 +10,7 @@ pub enum Pairing {
 }
 
 // What a filter line asks of a row: `eq=C,W`, `ne=C,W`, `max=C,W`, `same=C,D`.
-#[derive(Drop)]
+#[derive(Clone, Copy)]
 pub enum Condition {
     Eq(u32, u32),
     Ne(u32, u32),

@@ -1,4 +1,6 @@
 // How large an allowance is enough: the tests of a run before 17, and the product of document 02 beside the plan.
+#![tactic(auto)]
+
 use database::Verdict;
 use plan::Plan;
 
@@ -9,7 +11,7 @@ pub use tests::runnable;
 pub use within::allowance;
 
 // What a caller is answered; a refusal comes with a blank plan and no budget.
-#[derive(Drop)]
+#[derive(Clone, Copy)]
 pub struct Allowed {
     pub plan: Plan,
     pub budget: u32,

@@ -1,5 +1,7 @@
 // Reads `sheet.txt`, `book.txt` and `steps.txt` of the folder that it is run in and prints the answer. What is printed for the bytes read is
 // `engine::answer`; here files are read and the bytes written.
+#![tactic(auto)]
+
 ghost use Rattle.io.specs.Counts.{IsPrefixLen};
 
 use engine::BYTES_TAKEN;

@@ -1,5 +1,7 @@
 // What the program `answer` prints for the bytes of its three files: "It takes 24 nodes (else 2), L = 24, 1,000,000 lines, 384 stored rows and
 // 8,192 bytes a file (else 17)."
+#![tactic(auto)]
+
 ghost use Rattle.std.specs.Prelude.{◌≡◌, ◌≤◌, length};
 ghost use Rattle.rewrite.specs.Rewrite.{rewritten};
 ghost use Rattle.text.specs.Lines.{whole};

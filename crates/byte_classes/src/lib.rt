@@ -1,4 +1,6 @@
 // What kind of byte stands in a text (02, U7): told by ranges, without a table.
+#![tactic(auto)]
+
 ghost use Rattle.std.specs.Prelude.{◌≡◌, eqb};
 ghost use Rattle.byte_classes.specs.Classes.{class_of};
 ghost use Rattle.byte_classes.specs.Codes.{code_of};
@@ -7,7 +9,7 @@ ghost use Rattle.byte_classes.specs.Codes.{code_of};
 const SEVERAL: u8 = 13;
 
 // "digit, lower-case letter, comma, equals sign, line end or other". A digit comes with its value, so that no reader takes it from the byte.
-#[derive(Drop)]
+#[derive(Clone, Copy)]
 pub enum ByteClass {
     Digit(u8),
     Letter,

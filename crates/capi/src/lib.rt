@@ -1,6 +1,8 @@
 // The engine for other languages: reading, checking, rewriting, compiling, allowances, running and going on over flat slices of u32, whose layout the crate `flat` says.
 //
 // A call returns its verdict as one number. A flat slice below its room gives 17 before any other test.
+#![tactic(auto)]
+
 mod calls;
 mod part_calls; // part_calls.rt: runs that can be gone on with
 mod panel_calls; // panel_calls.rt: the same at the panel's limits

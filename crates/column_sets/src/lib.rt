@@ -1,4 +1,6 @@
 // Sets of columns.
+#![tactic(auto)]
+
 ghost use Rattle.std.specs.Prelude.{◌≡◌, not, ◌&&◌};
 ghost use Rattle.laws.specs.Lists.{every, all};
 ghost use Rattle.algebra.specs.Columns.{named, no_cols, with, without, both};

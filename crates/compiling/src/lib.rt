@@ -1,4 +1,6 @@
 // Compiling: the plan of a query that is checked over a database.
+#![tactic(auto)]
+
 use database::Verdict;
 use plan::Plan;
 
@@ -10,7 +12,7 @@ pub use lines::blank_plan;
 
 // A plan in the making. In a loop, delta is its delta register and begun the place of its start line; else both are 0. loops: how many loops
 // have begun.
-#[derive(Drop)]
+#[derive(Clone, Copy)]
 pub struct Draft {
     pub plan: Plan,
     pub delta: usize,
@@ -19,7 +21,7 @@ pub struct Draft {
 }
 
 // What compiling replies; a refusal comes with a blank plan.
-#[derive(Drop)]
+#[derive(Clone, Copy)]
 pub struct Compiled {
     pub plan: Plan,
     pub verdict: Verdict,

@@ -1,4 +1,6 @@
 // The conditions of what a kind has found: "a column must be stable" (13), "a column must be unused" (14), the other operand must be closed (15).
+#![tactic(auto)]
+
 ghost use Rattle.std.specs.Prelude.{◌≡◌, not, ◌<◌, ◌≤◌};
 ghost use Rattle.laws.specs.Lists.{every, all};
 ghost use Rattle.algebra.specs.Columns.{named};

@@ -1,4 +1,6 @@
 // The engine: the public functions of all layers, and lists of steps.
+#![tactic(auto)]
+
 mod steps;
 
 pub use allowance::allowance;

@@ -1,1 +1,2 @@
 // Worked examples of the definitions, compared by computation. No code.
+#![tactic(auto)]

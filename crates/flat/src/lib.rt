@@ -17,6 +17,8 @@
 // An allowance takes one entry.
 //
 // A verdict is 0 if it accepts, else the refusal's number times 2^32 and its place; a place over 4,294,967,295 is given as that.
+#![tactic(auto)]
+
 mod decode; // decode.rt: from flat slices to values
 pub mod encode; // encode.rt: from values to flat slices
 
@@ -46,7 +48,7 @@ pub const PLAN_ROOM: usize = 1 + SLOT_ENTRIES * NODES;
 pub const ALLOWANCE_ROOM: usize = 1;
 
 // A plan line as a code and four numbers.
-#[derive(Drop)]
+#[derive(Clone, Copy)]
 pub struct FlatOp {
     pub code: u32,
     pub to: u32,
@@ -56,7 +58,7 @@ pub struct FlatOp {
 }
 
 // A node line as a code and two numbers.
-#[derive(Drop)]
+#[derive(Clone, Copy)]
 pub struct FlatLine {
     pub code: u32,
     pub a: u32,

@@ -73,11 +73,13 @@ some_at P d (a ∷ l) (suc i) h p = later (some_at P d l i (le_of_suc-le-suc h) 
 
 -- a fact of each member beside a fact of some
 pub some_map : {A : Type 0} {P Q R : A → Type 0} (l : List A) → ((a : A) → Q a → P a → R a) → Each Q l → Some P l → Some R l
+some_map {A = A} {P = P} {Q = Q} {R = R} [] f _ x = elim x [ ]
 some_map (a ∷ l) f (q, qs) (first p) = first (f a q p)
 some_map (a ∷ l) f (q, qs) (later p) = later (some_map l f qs p)
 
 -- what follows from some member follows
 pub some_out : {A C : Type 0} (l : List A) → Some (λ _. C) l → C
+some_out {A = A} {C = C} [] x = elim x [ ]
 some_out (a ∷ l) (first c) = c
 some_out (a ∷ l) (later s) = some_out l s
 

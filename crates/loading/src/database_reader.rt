@@ -16,7 +16,7 @@ use text::ReadDatabase;
 use text::line_reader::{Cursor, Opened, read_opening};
 
 // What a walk over a whole text replies: the database, and how many entries its rows take.
-#[derive(Drop)]
+#[derive(Clone, Copy)]
 pub struct ReadText {
     pub database: Database,
     pub size: usize,

@@ -1,4 +1,6 @@
 // Reading a database from its text.
+#![tactic(auto)]
+
 mod database_reader;
 mod table_reader;
 

@@ -20,14 +20,14 @@ use row_reading::row_reader::{due_cols, due_row};
 use text::line_reader::{Cursor, Due, DueCount, due_count};
 
 // Where a walk ends: behind what was read, or at the first bad line.
-#[derive(Drop)]
+#[derive(Clone, Copy)]
 pub enum Walked {
     Next(Cursor),
     Bad(usize),
 }
 
 // A table's columns and row count, and where its walk ends.
-#[derive(Drop)]
+#[derive(Clone, Copy)]
 pub struct ReadTable {
     pub columns: Columns,
     pub rows: usize,
@@ -35,7 +35,7 @@ pub struct ReadTable {
 }
 
 // Tables behind each other: the database, how many entries its rows take, and where the walk ends.
-#[derive(Drop)]
+#[derive(Clone, Copy)]
 pub struct ReadTables {
     pub database: Database,
     pub size: usize,

@@ -1,8 +1,10 @@
 // What a rule matches in a checked query.
+#![tactic(auto)]
+
 use algebra::Condition;
 
 // What a kind finds at its node, by the indices of the operands' last lines: a fix, and the other operand.
-#[derive(Drop)]
+#[derive(Clone, Copy)]
 pub enum Found {
     Nothing,
     FilterFix(Condition, usize),

@@ -1,4 +1,6 @@
 // Document 02's U5: the origins of a step's columns, node by node in one pass over its lines, and the columns that are not stable by them.
+#![tactic(auto)]
+
 ghost use Rattle.std.specs.Prelude.{◌≡◌, ◌-◌, ◌≤◌, ◌<◌};
 ghost use Rattle.relation.specs.Rows.{columns, cols_of};
 ghost use Rattle.query.specs.Lines.{node_limit};
@@ -12,7 +14,7 @@ use query::{Facts, NODES, Node, Query};
 use relation::{COLUMNS, Columns};
 
 // Of a node's columns: for each the column of the variable that it comes from, or the number of columns where there is none.
-#[derive(Drop)]
+#[derive(Clone, Copy)]
 pub struct NodeOrigins {
     pub from: [usize; COLUMNS],
 }

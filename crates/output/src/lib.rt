@@ -1,12 +1,14 @@
 // Putting bytes, numbers and lines into a lent slice from a place on. Each function replies the next place, and the place past the end where its
 // text doesn't fit. Without `store` it only measures.
+#![tactic(auto)]
+
 ghost use Rattle.std.specs.Prelude.{◌≡◌, [], ◌∷◌, ◌++◌};
 ghost use Rattle.text.specs.Numbers.{digits, comma_digits};
 ghost use Rattle.text.specs.Texts.{line_text};
 ghost use Rattle.output.specs.Output.{Puts};
 
 // What writing a text into a lent slice replies: how many bytes it took, or that the slice is short.
-#[derive(Drop)]
+#[derive(Clone, Copy)]
 pub enum Written {
     Bytes(usize),
     Short,

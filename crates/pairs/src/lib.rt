@@ -1,4 +1,6 @@
 // The plan lines that work pair by pair: join and except.
+#![tactic(auto)]
+
 pub mod excepts;
 pub mod joins;
 

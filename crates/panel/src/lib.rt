@@ -1,4 +1,6 @@
 // The wall panel: the desk's functions at the panel's limits. No function here takes a node limit or a row limit, so 16 never arises.
+#![tactic(auto)]
+
 ghost use Rattle.std.specs.Prelude.{◌≡◌, ◌≢◌, List, ℕ, ◌≤◌, length};
 ghost use Rattle.relation.specs.Rows.{columns, rows_of};
 ghost use Rattle.database.specs.declared.Refusal.TheVariants.{BudgetSpent};

@@ -1,5 +1,7 @@
 // Reads `path.txt` and `book.txt` of the folder that it is run in and prints the path's sheet. What is printed for the bytes read is
 // `engine::print_path`; here files are read and the bytes written.
+#![tactic(auto)]
+
 ghost use Rattle.io.specs.Counts.{IsPrefixLen};
 
 use engine::{BYTES_TAKEN, PATH_BYTES};

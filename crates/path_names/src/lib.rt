@@ -1,4 +1,6 @@
 // The names of a path over a book (02, U6): "A table outside the book gets 10, wrong columns get 9 …; the first such name in the path decides."
+#![tactic(auto)]
+
 ghost use Rattle.std.specs.Prelude.{◌≡◌, ◌<◌};
 ghost use Rattle.relation.specs.Rows.{columns, columns_of};
 ghost use Rattle.database.specs.Stored.{schema};
@@ -15,7 +17,7 @@ use relation::Columns;
 use scoping::first_pass::{accept_if, first_of};
 
 // The first refusal among the names read, and among those before the last of them, which a second digit changes.
-#[derive(Drop)]
+#[derive(Clone, Copy)]
 pub struct Named {
     pub before: Verdict,
     pub all: Verdict,

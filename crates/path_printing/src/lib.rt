@@ -1,4 +1,6 @@
 // What the program `path` prints for the bytes of its two files (02, U6): the sheet of the path over the book, or the refusal.
+#![tactic(auto)]
+
 ghost use Rattle.std.specs.Prelude.{◌≡◌, ◌≤◌, length};
 ghost use Rattle.text.specs.Replies.{query_reply};
 ghost use Rattle.output.specs.Replies.{write_reply, slice_after};

@@ -1,4 +1,6 @@
 // Reading a property path over a stored book into a sheet (02, U6): 21, "tested first, 11 next", then 10 or 9 by the first bad name, then 2.
+#![tactic(auto)]
+
 ghost use Rattle.std.specs.Prelude.{◌≡◌, min};
 ghost use Rattle.relation.specs.Rows.{columns};
 ghost use Rattle.query.specs.Lines.{node_limit};

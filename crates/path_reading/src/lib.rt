@@ -1,4 +1,6 @@
 // Reading a path's text (02, U6): 21 with its place, by one pass over the bytes that keeps what may follow and how many parentheses are open.
+#![tactic(auto)]
+
 ghost use Rattle.std.specs.Prelude.{◌≡◌, ◌&&◌, ◌≤◌, eqb};
 ghost use Rattle.database.specs.Refusals.{verdict};
 ghost use Rattle.paths.specs.Reader.{sign, path_limit, read_path};
@@ -13,7 +15,7 @@ use query::preceding;
 pub const PATH_BYTES: usize = 128;
 
 // What may follow the bytes read: a primary or `^` is due; a primary is due; the name 1, which may go on as 10 to 15; a primary has ended; its `+` too; nothing.
-#[derive(Drop)]
+#[derive(Clone, Copy)]
 pub enum Mode {
     Due,
     Turned,

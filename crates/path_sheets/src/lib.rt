@@ -1,4 +1,6 @@
 // The sheet of an accepted path's text (02, U6), by one pass over the bytes that stops as soon as there is no room.
+#![tactic(auto)]
+
 ghost use Rattle.std.specs.Prelude.{◌≡◌, min};
 ghost use Rattle.database.specs.Refusals.{accepted};
 ghost use Rattle.query.specs.Lines.{node_limit};
@@ -19,7 +21,7 @@ mod put_lines; // put_lines.rt: lines put behind a sheet's
 mod signs; // signs.rt: what each sign does
 
 // The lines written so far; over: a line found no room.
-#[derive(Drop)]
+#[derive(Clone, Copy)]
 pub struct Sheet {
     pub query: Query,
     pub over: bool,
@@ -27,7 +29,7 @@ pub struct Sheet {
 
 // What stands before an operand since the start or a parenthesis: alternatives, a sequence, a `^`; the line at which the operand begins, and
 // the recursions before it.
-#[derive(Drop)]
+#[derive(Clone, Copy)]
 pub struct Before {
     pub alternatives: bool,
     pub sequence: bool,
@@ -38,7 +40,7 @@ pub struct Before {
 
 // numbers: the recursions so far; ended: an operand has been read, so that a digit is its second one; outer: what stands before the open
 // parentheses, the outermost first.
-#[derive(Drop)]
+#[derive(Clone, Copy)]
 pub struct Writing {
     pub sheet: Sheet,
     pub numbers: usize,

@@ -1,4 +1,6 @@
 // The query: document 01's sheet, as lines of nodes.
+#![tactic(auto)]
+
 use algebra::{Condition, Pairing};
 use database::Verdict;
 use relation::Columns;
@@ -13,7 +15,7 @@ pub use nodes::preceding;
 pub const NODES: usize = 128;
 
 // A node line, by the format's words; filters are the lines `eq`, `ne`, `max` and `same`.
-#[derive(Drop)]
+#[derive(Clone, Copy)]
 pub enum Node {
     Table(u32),
     Var(u32),
@@ -27,13 +29,13 @@ pub enum Node {
     Last(u32),
 }
 
-#[derive(Drop)]
+#[derive(Clone, Copy)]
 pub struct Line {
     pub node: Node,
 }
 
 // A sheet handed in as a value. Lines past the count mean nothing.
-#[derive(Drop)]
+#[derive(Clone, Copy)]
 pub struct Query {
     pub count: usize,
     pub lines: [Line; NODES],
@@ -43,13 +45,13 @@ pub struct Query {
 pub const VARIABLES: usize = 16;
 
 // A set of recursion variables.
-#[derive(Drop)]
+#[derive(Clone, Copy)]
 pub struct Variables {
     pub has: [bool; VARIABLES],
 }
 
 // What the check tells of each node, in node order: the index of its first line, its free variables, its columns.
-#[derive(Drop)]
+#[derive(Clone, Copy)]
 pub struct Facts {
     pub start: [usize; NODES],
     pub free: [Variables; NODES],
@@ -57,7 +59,7 @@ pub struct Facts {
 }
 
 // What a check replies: the split sheet, in which each `mu` is a fix, with the facts of its nodes; a refusal comes with the query as given and blank facts.
-#[derive(Drop)]
+#[derive(Clone, Copy)]
 pub struct CheckedQuery {
     pub verdict: Verdict,
     pub query: Query,
@@ -65,14 +67,14 @@ pub struct CheckedQuery {
 }
 
 // Where a line's node starts, by the nodes before it, or that an operand is missing.
-#[derive(Drop)]
+#[derive(Clone, Copy)]
 pub enum Begin {
     At(usize),
     Missing,
 }
 
 // What the shape of a query replies: the starts of its nodes, in node order; zeros beside a refusal.
-#[derive(Drop)]
+#[derive(Clone, Copy)]
 pub struct CheckedShape {
     pub verdict: Verdict,
     pub start: [usize; NODES],

@@ -1,4 +1,6 @@
 // Reading a sheet's text and the lines of a steps file.
+#![tactic(auto)]
+
 mod query_reader;
 mod step_reader;
 

@@ -1,5 +1,7 @@
 // Reads the texts of the folder that it is run in, and prints what was read or the first refusal: `step.txt`, a line of a steps file without its
 // last byte; or `database.txt`, a book, and `query.txt`, a sheet, which is checked if both are there. Of these the last is printed.
+#![tactic(auto)]
+
 ghost use Rattle.std.specs.Prelude.{◌≤◌};
 ghost use Rattle.io.specs.Counts.{IsPrefixLen};
 

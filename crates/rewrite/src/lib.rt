@@ -1,5 +1,7 @@
 // Rewriting a query by the papers' kinds: the columns used along a fix's path, the moves of lines, and what a step hands back. These are inner functions,
 // for a query that has been checked.
+#![tactic(auto)]
+
 ghost use Rattle.std.specs.Prelude.{◌≡◌};
 ghost use Rattle.database.specs.Refusals.{refused};
 ghost use Rattle.rewrite.specs.Rewrite.{rewritten};
@@ -12,7 +14,7 @@ pub mod path; // path.rt: the columns used along the path of a fix
 pub mod splice; // splice.rt: the moves of lines by which the rules write their sheets
 
 // What a rewrite hands back: the rule's query, or the query as given beside the refusal.
-#[derive(Drop)]
+#[derive(Clone, Copy)]
 pub struct Rewritten {
     pub query: Query,
     pub verdict: Verdict,

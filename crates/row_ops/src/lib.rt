@@ -1,4 +1,6 @@
 // Rows of slots: their order, the tests on one or two of them, and the rows made from them.
+#![tactic(auto)]
+
 pub mod changes;
 pub mod rows;
 

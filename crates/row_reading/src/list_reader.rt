@@ -10,7 +10,7 @@ use text::line_reader::{find, starts};
 use text::number_reader::{ReadNumber, read_number};
 
 // The first numbers of the array; none where nothing was read.
-#[derive(Drop)]
+#[derive(Clone, Copy)]
 pub struct Numbers {
     pub count: usize,
     pub values: [u32; COLUMNS],

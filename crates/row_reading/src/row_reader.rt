@@ -15,21 +15,21 @@ use row_ops::rows::less;
 use text::line_reader::{Cursor, Due, find};
 
 // What a due `cols=` line replies: its columns, and the line behind it.
-#[derive(Drop)]
+#[derive(Clone, Copy)]
 pub struct DueCols {
     pub cols: Numbers,
     pub due: Due,
 }
 
 // What reading a `row=` line replies.
-#[derive(Drop)]
+#[derive(Clone, Copy)]
 pub struct ReadRow {
     pub row: Row,
     pub good: bool,
 }
 
 // What a due `row=` line replies: its row, and the line behind it.
-#[derive(Drop)]
+#[derive(Clone, Copy)]
 pub struct DueRow {
     pub row: Row,
     pub due: Due,

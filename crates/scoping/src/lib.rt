@@ -1,4 +1,6 @@
 // The first pass of the check (4 to 8): where variables stand.
+#![tactic(auto)]
+
 pub mod first_pass;
 pub mod free;
 

@@ -1,4 +1,6 @@
 // Document 02's U4: each `mu` of a query is split into a fix, "after 3 and before 4".
+#![tactic(auto)]
+
 use database::Verdict;
 use query::Query;
 
@@ -10,7 +12,7 @@ mod sheet; // sheet.rt: the split sheet
 pub use sheet::split;
 
 // What a split replies: the split sheet, or 20 beside the query as given.
-#[derive(Drop)]
+#[derive(Clone, Copy)]
 pub struct SplitQuery {
     pub verdict: Verdict,
     pub query: Query,

@@ -16,6 +16,8 @@
 //   drop to=R from=R column=A
 //   start total=R newest=R from=R path=N               from the seed's register; the path has N lines
 //   again total=R newest=R from=R path=N               from the step's register
+#![tactic(auto)]
+
 mod plan_text; // plan_text.rt: the text of a plan
 mod printing; // printing.rt: what both print
 

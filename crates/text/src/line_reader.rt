@@ -10,35 +10,35 @@ use crate::number_reader::{ReadNumber, read_number};
 use byte_classes::is_byte;
 
 // What reading two numbers replies.
-#[derive(Drop)]
+#[derive(Clone, Copy)]
 pub enum ReadPair {
     Pair(u32, u32),
     Bad,
 }
 
 // A place in a text, and the number of the line that begins there.
-#[derive(Drop)]
+#[derive(Clone, Copy)]
 pub struct Cursor {
     pub at: usize,
     pub line: usize,
 }
 
 // What a due line replies whose value stands beside, or that has none.
-#[derive(Drop)]
+#[derive(Clone, Copy)]
 pub enum Due {
     Next(Cursor),
     Bad,
 }
 
 // What a due line with a count replies: the count, and where the next line begins.
-#[derive(Drop)]
+#[derive(Clone, Copy)]
 pub enum DueCount {
     Count(u32, usize),
     Bad,
 }
 
 // What the two lines that open a text reply: the count and the line behind them, or the first bad line.
-#[derive(Drop)]
+#[derive(Clone, Copy)]
 pub enum Opened {
     Count(u32, Cursor),
     Bad(usize),

@@ -6,7 +6,7 @@ ghost use Rattle.text.specs.Readings.{number_reply, value_in};
 use byte_classes::{ByteClass, class_of, is_byte};
 
 // What reading a number replies.
-#[derive(Drop)]
+#[derive(Clone, Copy)]
 pub enum ReadNumber {
     Value(u32),
     Bad,

@@ -1,4 +1,6 @@
 // Writing document 01's output: an answer, or a refusal.
+#![tactic(auto)]
+
 mod answers;
 mod refused;
 
