@@ -1,14 +1,14 @@
 -- A stored book as the code holds it: the sizes of its arrays, where its tables begin, and the room that a tested table has. w is the number of columns.
-use mathlib.Core.Path.{◌≡◌, refl, sym, ◌∙◌, fun_ext}
+use mathlib.Core.Path.{◌≡◌, refl, sym, fun_ext}
 use mathlib.Core.Bool.{Bool, true, false, not, ◌&&◌}
-use mathlib.Core.List.{List, [], ◌∷◌, map}
+use mathlib.Core.List.{List, [], ◌∷◌}
 use Prim.Native.Nat.{ℕ, zero, suc, ◌+◌, ◌*◌, ◌≤◌, ◌<◌}
 use native.Mathlib.Omega.{arith}
 use native.Mathlib.Numerals.{add-one}
 use native.Mathlib.Decide.{dec_lt}
 use native.Mathlib.Nat.{not-suc-le-zero, le_of_suc-le-suc}
 use lib.Dec.{ltb}
-use lib.ListN.{length, get_or, length-map, get_or-eq_default}
+use lib.ListN.{length, get_or, get_or-eq_default}
 use mir.Val.{Val}
 use denote.Laws.{Is}
 use denote.Shadow.{shadow}
@@ -19,7 +19,7 @@ use Rattle.laws.specs.Lists.{all, every}
 use Rattle.algebra.specs.Columns.{no_cols}
 use Rattle.relation.specs.declared.Columns.{Columns}
 use Rattle.relation.specs.Rows.{columns, columns_of, absent_zero, ascend}
-use Rattle.relation.specs.contracts.Columns.{the_field}
+use Rattle.relation.specs.contracts.Columns.{the_row}
 use Rattle.relation.proofs.CodeRows.{columns_are}
 use Rattle.database.specs.declared.Database.{Database}
 use Rattle.database.specs.Refusals.{accepted}
@@ -29,19 +29,19 @@ use Rattle.database.proofs.Tested.{table_facts}
 use Rattle.database.proofs.Stored.{check_database_iff}
 
 -- the entries of an array of sets of columns have their size
-entry_size : (s : List Columns) (vs : List Val) → shadow (each the_field.row.Denot the_field.row.own_val (map the_field.into s) vs)
+entry_size : (s : List Columns) (vs : List Val) → shadow (each the_row.Denot the_row.own_val s vs)
     → (t : ℕ) → t < length s → length (get_or s t (record { has = [] })).has ≡ columns
 entry_size [] vs h t k = absurd (not-suc-le-zero k)
 entry_size (a ∷ s) [] h t k = absurd h
-entry_size (a ∷ s) (v ∷ vs) h zero k = sym (length-map a.has _) ∙ h.0.1.1.0.1.0.1
+entry_size (a ∷ s) (v ∷ vs) h zero k = h.0.1.1.0.1.0.1
 entry_size (a ∷ s) (v ∷ vs) h (suc t) k = entry_size s vs h.1 t (le_of_suc-le-suc k)
 
 module _ (d : Database) (vs : List Val) (h : Is (row the_type) d vs) where
   pub columns_length : length d.columns ≡ table_limit
-  columns_length = sym (length-map d.columns _) ∙ h.1.1.1.0.1.0.1
+  columns_length = h.1.1.1.0.1.0.1
 
   pub rows_length : length d.rows ≡ table_limit
-  rows_length = sym (length-map d.rows _) ∙ h.1.1.1.1.0.1.0.1
+  rows_length = h.1.1.1.1.0.1.0.1
 
   pub table_size : (t : ℕ) → t < table_limit → length (get_or d.columns t (record { has = [] })).has ≡ columns
   table_size t k = entry_size d.columns _ h.1.1.1.0.1.1 t (let e = columns_length in omega arith)

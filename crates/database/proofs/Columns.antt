@@ -1,13 +1,10 @@
 -- Two books with the same columns have one schema.
 use mathlib.Core.Path.{◌≡◌, refl, ap, sym, ◌∙◌, fun_ext}
-use mathlib.Core.Bool.{Bool, true, false, ◌&&◌}
-use Prim.Native.Nat.{ℕ, ◌<◌}
+use mathlib.Core.Bool.{Bool, true, false}
+use Prim.Native.Nat.{ℕ}
 use lib.Dec.{ltb}
-use lib.ListN.{get_or}
 use borrow.Author.Tests.{ltb-true}
-use mathlib.Core.List.{[]}
-use Rattle.algebra.specs.Columns.{Cols, Schema}
-use Rattle.relation.specs.Rows.{cols_of}
+use Rattle.algebra.specs.Columns.{Cols}
 use Rattle.database.specs.declared.Database.{Database}
 use Rattle.database.specs.Stored.{table_cols, schema, SameColumns}
 

@@ -1,13 +1,11 @@
 -- A stored book: its tables' rows, its columns, and the test that it is on the form (11). w is the number of columns.
-use Rattle.std.specs.Prelude.{◌≡◌, Bool, true, false, not, ◌&&◌, List, [], ◌∷◌, ℕ, zero, suc, ◌+◌, ◌*◌, ◌<◌, leb, ltb, get_or, drop, length}
-use Rattle.std.proofs.Math.Option.{Option, some, none}
-use Rattle.laws.specs.Lists.{if◌then◌else◌, all, lowest, every}
+use Rattle.std.specs.Prelude.{◌≡◌, Bool, not, ◌&&◌, List, [], ℕ, zero, suc, ◌+◌, ◌*◌, ◌<◌, leb, ltb, get_or, drop, length}
+use Rattle.std.proofs.Math.Option.{some, none}
+use Rattle.laws.specs.Lists.{all, lowest, every}
 use Rattle.algebra.specs.Term.{Environment}
 use Rattle.algebra.specs.Columns.{Cols, Schema}
-use Rattle.relation.specs.declared.Columns.{Columns}
-use Rattle.relation.specs.Rows.{Row, Rows, cols_of, ascend, absent_zero, rows_of, relation}
+use Rattle.relation.specs.Rows.{Rows, cols_of, ascend, absent_zero, rows_of, relation}
 use Rattle.database.specs.declared.Database.{Database}
-use Rattle.database.specs.declared.Refusal.{Refusal}
 use Rattle.database.specs.declared.Refusal.TheVariants.{DatabaseForm}
 use Rattle.database.specs.Refusals.{Reply, refused, accepted, require, ◌>>=◌}
 

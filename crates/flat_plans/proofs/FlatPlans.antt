@@ -22,7 +22,7 @@ slot_size s = refl
 
 -- there is room for as many lines as a plan may have
 pub plan_ops : (p : Plan) (vs : List Val) → Is (row the_type) p vs → length p.ops ≡ node_limit
-plan_ops p vs h = sym (length-map p.ops _) ∙ h.1.1.1.0.1.0.1
+plan_ops p vs h = h.1.1.1.0.1.0.1
 
 -- what the logic reads past the end
 abbrev pub nil : Slot

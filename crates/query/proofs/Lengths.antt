@@ -14,7 +14,7 @@ use Rattle.query.specs.contracts.Query.{the_type}
 
 -- there is room for as many lines as a query may have
 pub query_length : (q : Query) (vs : List Val) → Is (row the_type) q vs → length q.lines ≡ node_limit
-query_length q vs h = sym (length-map q.lines _) ∙ h.1.1.1.0.1.0.1
+query_length q vs h = h.1.1.1.0.1.0.1
 
 pub nodes_length : (q : Query) (vs : List Val) → Is (row the_type) q vs → q.count ≤ node_limit → length (nodes q) ≡ q.count
 nodes_length q vs h k =
