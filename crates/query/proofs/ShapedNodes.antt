@@ -10,7 +10,7 @@ use Rattle.algebra.specs.Columns.{no_cols, Schema}
 use Rattle.query.specs.declared.Node.{Node}
 use Rattle.query.specs.declared.Node.TheVariants.{Table}
 use Rattle.query.specs.declared.Query.{Query}
-use Rattle.query.specs.Lines.{node_limit, nodes, lines}
+use Rattle.query.specs.Lines.{node_limit, nodes}
 use Rattle.query.specs.Facts.{Visit, visits, visited, padded}
 use Rattle.query.specs.Shape.{root, starts, Shaped}
 use Rattle.query.specs.Passes.{no_visit, visits_of, visit_at}

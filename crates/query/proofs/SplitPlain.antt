@@ -1,8 +1,7 @@
 -- A sheet without a mu is its own split, and gets the numbers that it got before there were any.
 use mathlib.Core.Path.{◌≡◌, refl, ap, ap₂, sym, ◌∙◌}
 use mathlib.Core.List.{List, [], ◌∷◌, ◌++◌, map}
-use Prim.Native.Nat.{ℕ, ◌+◌}
-use native.Mathlib.Omega.{arith}
+use Prim.Native.Nat.{ℕ}
 use lib.ListN.{length, take, drop as dropFirst, take-append-drop}
 use Rattle.laws.proofs.EachMember.{Each}
 use Rattle.laws.proofs.EmptyLists.{each_split}

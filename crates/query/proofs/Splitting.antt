@@ -1,11 +1,10 @@
 -- The check's splitting: no fault exactly if no mu is left, and lines on the form stay so.
 use mathlib.Core.Path.{◌≡◌, refl, ap, sym, ◌∙◌}
-use mathlib.Core.Bool.{Bool, true, false}
+use mathlib.Core.Bool.{true}
 use mathlib.Core.List.{List, [], ◌∷◌, ◌++◌}
 use mathlib.Core.Logic.{◌↔◌, inl, inr}
 use Prim.Native.Nat.{ℕ, ◌+◌}
 use native.Mathlib.Omega.{arith}
-use Rattle.laws.proofs.Tests.{true_false}
 use Rattle.laws.proofs.EachMember.{Each, each_append}
 use Rattle.laws.proofs.EmptyLists.{true_or_false, append_none, each_split}
 use Rattle.algebra.specs.Term.{Term, table, var, fact, pair, filter, copy, drop, last, fix, mu}
@@ -19,7 +18,7 @@ use Rattle.database.proofs.Replies.{accepted_same, accepted_then, no_fault_lem}
 use Rattle.query.specs.declared.Node.{Node}
 use Rattle.query.specs.declared.Node.TheVariants.{Pair, Filter, Copy, Drop, Fix, Mu, Last}
 use Rattle.query.specs.Lines.{on_form, lines}
-use Rattle.query.specs.Check.{unless, split_faults, split_term}
+use Rattle.query.specs.Check.{split_faults, split_term}
 use Rattle.query.proofs.FirstPass.{unless_none}
 
 -- every mu of the term has a closed branch and an open one: then none is left

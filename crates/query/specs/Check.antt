@@ -1,7 +1,7 @@
 -- Document 01's "Checking": the two passes as lists of faults in the paper's order; the refusal is the first. Before them each `mu` is split
 -- (document 02, U4), and they see the split sheet only. w is the number of columns.
-use Rattle.std.specs.Prelude.{Bool, true, false, not, ◌&&◌, ◌||◌, List, [], ◌∷◌, ◌++◌, ℕ, zero, suc, ◌+◌, ltb}
-use Rattle.laws.specs.Lists.{if◌then◌else◌, ◌==◌, every, all, member}
+use Rattle.std.specs.Prelude.{Bool, true, false, not, ◌&&◌, ◌||◌, List, [], ◌∷◌, ◌++◌, ℕ, ◌+◌, ltb}
+use Rattle.laws.specs.Lists.{◌==◌, every, all, member}
 use Rattle.algebra.specs.declared.Pairing.{Pairing}
 use Rattle.algebra.specs.declared.Pairing.TheVariants.{Union, Join, Except}
 use Rattle.algebra.specs.Mapping.{Relation}

@@ -1,9 +1,8 @@
 -- What the check tells later stages of each node. w is the number of columns.
-use Rattle.std.specs.Prelude.{Bool, true, false, List, [], ◌∷◌, ◌++◌, map, ℕ, ◌+◌, ◌-◌, length, replicate}
+use Rattle.std.specs.Prelude.{List, [], ◌∷◌, ◌++◌, map, ℕ, ◌+◌, ◌-◌, length, replicate}
 use Rattle.laws.specs.Lists.{member, tabulate}
 use Rattle.algebra.specs.Term.{Term, table, var, fact, pair, filter, copy, drop, last, fix, mu}
 use Rattle.algebra.specs.Columns.{Cols, no_cols, Schema, cols, free, size}
-use Rattle.relation.specs.declared.Columns.{Columns}
 use Rattle.relation.specs.Rows.{columns_of}
 use Rattle.database.specs.Stored.{table_limit}
 use Rattle.database.specs.Refusals.{Reply, refused, accepted, verdict}
