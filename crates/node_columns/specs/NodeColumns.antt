@@ -1,12 +1,10 @@
 -- The columns of each node as the code holds them.
-use Rattle.std.specs.Prelude.{Bool, true, false, List, map, ℕ, take}
+use Rattle.std.specs.Prelude.{List, map, ℕ, take}
 use Rattle.algebra.specs.declared.Pairing.{Pairing}
 use Rattle.algebra.specs.declared.Pairing.TheVariants.{Union, Join, Except}
 use Rattle.algebra.specs.Columns.{no_cols, both, Schema, cols}
 use Rattle.relation.specs.declared.Columns.{Columns}
 use Rattle.relation.specs.Rows.{columns, cols_of, columns_of}
-use Rattle.query.specs.declared.Node.{Node}
-use Rattle.query.specs.declared.Node.TheVariants.{Table, Var, Fact, Pair, Filter, Copy, Drop, Fix}
 use Rattle.query.specs.declared.Query.{Query}
 use Rattle.query.specs.Facts.{Visit, padded}
 use Rattle.query.specs.Passes.{visits_of}
