@@ -1,17 +1,12 @@
 -- What a class tells of its byte: a digit's range and value, and that a byte with another class is no digit.
 use Prim.Native.Nat.{ℕ, ◌-◌, ◌≤◌}
-use mathlib.Core.Path.{◌≡◌, refl, ◌∙◌}
+use mathlib.Core.Path.{◌≡◌, ◌∙◌}
 use mathlib.Core.Bool.{false}
-use mathlib.Core.List.{List, [], ◌∷◌}
 use mathlib.Core.Logic.{inl, inr}
-use denote.Enum.Declared.{tag_of}
-use types.Run.{OneOf}
 use Rattle.laws.specs.Lists.{any}
 use Rattle.byte_classes.specs.declared.ByteClass.{ByteClass}
 use Rattle.byte_classes.specs.declared.ByteClass.TheVariants.{Digit}
 use Rattle.byte_classes.specs.Classes.{within, class_of, Belongs}
-use Rattle.byte_classes.specs.contracts.ByteClass.{the_type}
-use Rattle.byte_classes.proofs.Others.{other_variant}
 use Rattle.byte_classes.proofs.Ranges.{inside, range?, outside}
 use Rattle.byte_classes.proofs.Characters.{digit_placed}
 use Rattle.byte_classes.proofs.OneClass.{one_class}
@@ -21,13 +16,10 @@ pub digit_byte : (b d : ℕ) → class_of b ≡ Digit d → (48 ≤ b) × ((b �
 unfolding Belongs
 digit_byte b d e = digit_placed b d ((one_class b (Digit d)).1 e)
 
--- all variants but the digits'
-abbrev pub others : List ℕ
-others = 1 ∷ (2 ∷ (3 ∷ (4 ∷ (5 ∷ []))))
-
-pub no_digit : (b : ℕ) (x : ByteClass) → x ≡ class_of b → OneOf others (tag_of the_type x) → within 48 57 b ≡ false
+-- a byte whose class is no digit's
+pub no_digit : (b : ℕ) (x : ByteClass) → x ≡ class_of b → ((d : ℕ) → x ≡ Digit d → ⊥) → within 48 57 b ≡ false
 unfolding class_of any
 no_digit b x e h = elim (range? 48 57 b) [
-  | inl (k, l) ↦ absurd (other_variant the_type others x (Digit (b - 48)) h refl (e ∙ simp (inside 48 57 b k l)))
+  | inl (k, l) ↦ absurd (h (b - 48) (e ∙ simp (inside 48 57 b k l)))
   | inr k ↦ outside 48 57 b k
 ]

@@ -4,7 +4,7 @@ use mathlib.Core.Bool.{Bool, true, false, ◌||◌}
 use mathlib.Core.List.{List, [], ◌∷◌}
 use Prim.Native.Nat.{ℕ, ◌<◌}
 use lib.Dec.{eqb}
-use lib.ListN.{length, get_or}
+use lib.ListN.{length}
 use Rattle.laws.specs.Lists.{if◌then◌else◌, any, member, tabulate}
 use Rattle.laws.proofs.Tabulated.{length_tabulate, get_d_tabulate}
 use Rattle.laws.proofs.Indexed.{is_tabulate}

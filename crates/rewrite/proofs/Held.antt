@@ -75,4 +75,4 @@ module _ (w : ℕ) (G : Schema) (t : Term) where
   pub kept_all : (q : Query) → Kept G t q → (steps : List Step) → Each (λ (s : Step). schema w s.database ≡ G) steps → Kept G t (held w q steps)
   unfolding held
   kept_all q c [] h = c
-  kept_all q c (s ∷ steps) (e, h) = kept_all _ (kept_step q c s e) steps h
+  kept_all q c (s ∷ steps) (e, h) = kept_all (handed_back q (replied w q s)) (kept_step q c s e) steps h

@@ -1,6 +1,6 @@
 -- What a rule replies to a term, and why: 12 exactly where its kind does not match, then 13, 14, 15 exactly where a column must be stable and
 -- isn't, must be unused and isn't, or the other operand is open; else what the rule writes.
-use mathlib.Core.Path.{◌≡◌, refl, ap, sym, ◌∙◌, subst}
+use mathlib.Core.Path.{◌≡◌, refl, sym, ◌∙◌, subst}
 use mathlib.Core.Bool.{Bool, true, false}
 use mathlib.Core.Option.{Option, some, none}
 use mathlib.Core.Logic.{◌↔◌}

@@ -157,6 +157,7 @@ module _ {A : Type 0} where
   later_form : (f : Form A) (forms : List (Form A)) (a : A) (l : List ℕ) → every (λ g. apart (bytes (key_of f)) (bytes (key_of g))) forms ≡ true
       → Some (λ g. Prints g a l) forms → by_form f l ≡ none
   unfolding every
+  later_form f [] a l e x'' = elim x'' [ ]
   later_form f (g ∷ forms) a l e (first p) =
       rw (← p.line) (other_form f (bytes (key_of g)) (comma_digits p.ns) (both_true (apart (bytes (key_of f)) (bytes (key_of g))) _ e).0)
   later_form f (g ∷ forms) a l e (later p) = later_form f forms a l (both_true (apart (bytes (key_of f)) (bytes (key_of g))) _ e).1 p
@@ -164,6 +165,7 @@ module _ {A : Type 0} where
   pub read_by_forms : (forms : List (Form A)) (a : A) (l : List ℕ) → keys_apart forms ≡ true → Some (λ f. Prints f a l) forms
       → by_forms forms l ≡ some a
   unfolding by_forms keys_apart
+  read_by_forms [] a l e x'' = elim x'' [ ]
   read_by_forms (f ∷ forms) a l e (first p) = rw (form_read f a l p, by_forms)
   read_by_forms (f ∷ forms) a l e (later p) =
       let (others, rest) = both_true (every (λ g. apart (bytes (key_of f)) (bytes (key_of g))) forms) (keys_apart forms) e in

@@ -4,9 +4,8 @@ use mathlib.Core.Bool.{Bool, true, false}
 use mathlib.Core.Option.{Option, some, none}
 use mathlib.Core.List.{List, [], ◌∷◌}
 use mathlib.Core.Logic.{inl, inr}
-use Prim.Native.Nat.{ℕ, zero, suc, ◌+◌, ◌-◌, ◌≤◌, ◌<◌}
+use Prim.Native.Nat.{ℕ, suc, ◌+◌, ◌-◌, ◌≤◌, ◌<◌}
 use native.Mathlib.Omega.{arith}
-use native.Mathlib.Numerals.{add-one}
 use lib.Dec.{eqb, leb}
 use lib.ListN.{length, take, drop, get_or, drop_of_length-le, length-drop}
 use lib.Seq.{drop-drop, take_all}
@@ -15,7 +14,7 @@ use Rattle.laws.specs.Lists.{if◌then◌else◌}
 use Rattle.laws.specs.Options.{present}
 use Rattle.laws.proofs.Tests.{true_false, same?}
 use Rattle.laws.proofs.Fronts.{drop_next, if_either}
-use Rattle.text.specs.Numbers.{newline, comma, into_first, parts}
+use Rattle.text.specs.Numbers.{newline, comma, parts}
 use Rattle.text.specs.Lines.{after, first_line}
 use Rattle.text.specs.Readings.{before}
 

@@ -1,5 +1,5 @@
 -- A place in a text as the code holds it, and a due line read there. A cursor stands for what is left of the text (`Rest`).
-use Rattle.std.specs.Prelude.{Bool, true, false, List, [], ◌∷◌, ℕ, ◌+◌, ◌-◌, ◌≤◌, leb, ltb, length, take, drop}
+use Rattle.std.specs.Prelude.{List, ℕ, ◌+◌, ◌-◌, ◌≤◌, leb, ltb, length, take, drop}
 use Rattle.std.proofs.Math.Option.{Option, some, none}
 use Rattle.laws.specs.Lists.{if◌then◌else◌}
 use Rattle.laws.specs.Options.{mapped}

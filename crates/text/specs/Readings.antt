@@ -1,5 +1,5 @@
 -- What the readers of a text's parts reply, as the definitions have it.
-use Rattle.std.specs.Prelude.{Bool, true, false, ◌&&◌, List, [], ◌∷◌, ℕ, zero, suc, eqb, leb}
+use Rattle.std.specs.Prelude.{Bool, ◌&&◌, List, [], ◌∷◌, ℕ, suc, eqb, leb}
 use Rattle.std.proofs.Math.Option.{Option, some, none}
 use Rattle.laws.specs.Lists.{if◌then◌else◌, every}
 use Rattle.laws.specs.Options.{present, ◌then◌}

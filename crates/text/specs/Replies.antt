@@ -1,6 +1,6 @@
 -- What the readers of texts reply, and what the lent slices hold afterwards. w is the number of columns.
 use Rattle.std.proofs.Math.Option.{Option, some, none}
-use Rattle.std.specs.Prelude.{List, [], ◌∷◌, ◌++◌, ℕ, leb, length, drop}
+use Rattle.std.specs.Prelude.{List, [], ◌++◌, ℕ, leb, length, drop}
 use Rattle.database.specs.declared.Refusal.TheVariants.{ShortSlice}
 use Rattle.database.specs.Refusals.{Reply, refused, accepted, require, verdict, ◌>>=◌}
 use Rattle.query.specs.declared.Node.{Node}
@@ -11,7 +11,7 @@ use Rattle.text.specs.declared.ReadStep.TheVariants.{Step, Bad}
 use Rattle.text.specs.declared.DueStep.{DueStep}
 use Rattle.text.specs.declared.DueStep.TheVariants as due
 use Rattle.text.specs.declared.line_reader.Cursor.{Cursor}
-use Rattle.text.specs.Lines.{KindNode, step_line}
+use Rattle.text.specs.Lines.{KindNode}
 use Rattle.text.specs.Texts.{Table, read_database, query_value, database_value, table_entries}
 
 -- what was read, or nothing

@@ -1,5 +1,5 @@
 -- Whole texts: reading and printing queries and databases, and printing answers and refusals. w is the number of columns.
-use Rattle.std.specs.Prelude.{Bool, true, false, ◌&&◌, ℕ, zero, suc, ◌+◌, ◌-◌, leb, length, replicate, drop}
+use Rattle.std.specs.Prelude.{◌&&◌, ℕ, zero, suc, ◌-◌, leb, length, replicate}
 use Rattle.std.proofs.Math.Option.{Option, some, none}
 use mathlib.Core.List.{List, [], ◌∷◌, ◌++◌, map, flat_map}
 use Rattle.laws.specs.Lists.{member, sift, tabulate}
@@ -10,7 +10,7 @@ use Rattle.database.specs.declared.Database.{Database}
 use Rattle.database.specs.declared.Refusal.{Refusal}
 use Rattle.database.specs.declared.Refusal.TheVariants.{QueryForm, NodeCount, DatabaseForm}
 use Rattle.database.specs.Stored.{table_limit, rows_limit, table_cols, table_rows}
-use Rattle.database.specs.Refusals.{Reply, refused, accepted, require, number, place_of, ◌>>=◌}
+use Rattle.database.specs.Refusals.{Reply, accepted, require, number, place_of, ◌>>=◌}
 use Rattle.query.specs.declared.Node.{Node}
 use Rattle.query.specs.declared.Query.{Query}
 use Rattle.query.specs.Lines.{line, blank, node_limit}
