@@ -3,15 +3,14 @@ use mathlib.Core.Path.{◌≡◌, refl, ap, sym, ◌∙◌, fun_ext}
 use mathlib.Core.Bool.{Bool, true, false, ◌&&◌, and-false}
 use mathlib.Core.Option.{Option, some, none}
 use mathlib.Core.List.{List, [], ◌∷◌, ◌++◌, map}
-use Prim.Native.Nat.{ℕ, suc, ◌+◌, ◌-◌, ◌≤◌, ◌<◌, min}
+use Prim.Native.Nat.{ℕ, ◌+◌, ◌-◌, ◌≤◌, ◌<◌, min}
 use native.Mathlib.Omega.{arith}
 use lib.Dec.{leb}
-use lib.ListN.{length, drop, set, replicate, length-append}
+use lib.ListN.{length, set, replicate, length-append}
 use borrow.Author.Tests.{le-leb, lt-leb, leb-true}
 use Rattle.laws.specs.Lists.{if◌then◌else◌, null}
-use Rattle.laws.proofs.Tests.{true_false, and_true_right}
+use Rattle.laws.proofs.Tests.{and_true_right}
 use Rattle.laws.proofs.Fronts.{null_drop, more_drop, filled_more}
-use Rattle.database.specs.declared.Refusal.{Refusal}
 use Rattle.database.specs.declared.Refusal.TheVariants.{QueryForm, NodeCount}
 use Rattle.database.specs.declared.Verdict.TheVariants.{Accepted}
 use Rattle.database.specs.Refusals.{Reply, refused, accepted, require, ◌>>=◌}
@@ -22,7 +21,7 @@ use Rattle.text.specs.declared.line_reader.Cursor.{Cursor}
 use Rattle.text.specs.declared.line_reader.Opened.{Opened}
 use Rattle.node_reading.specs.declared.DueNode.TheVariants as node
 use Rattle.text.specs.Numbers.{bytes, max_number}
-use Rattle.text.specs.Lines.{Rest, due, many, ended, whole, header_line, count_line, node_line}
+use Rattle.text.specs.Lines.{Rest, due, many, ended, node_line}
 use Rattle.text.specs.Texts.{read_nodes, query_value}
 use Rattle.text.specs.Replies.{query_reply}
 use Rattle.text.specs.Cursors.{rest_at, Placed, due_line, opened_at}

@@ -1,5 +1,5 @@
 -- The stages of reading a sheet's text. w is the number of columns.
-use Rattle.std.specs.Prelude.{Bool, true, false, ◌&&◌, List, [], ◌∷◌, ℕ, ◌+◌, min, leb, set}
+use Rattle.std.specs.Prelude.{◌&&◌, List, ℕ, ◌+◌, min, leb, set}
 use Rattle.laws.specs.Lists.{if◌then◌else◌}
 use Rattle.database.specs.declared.Refusal.TheVariants.{QueryForm, NodeCount}
 use Rattle.database.specs.declared.Verdict.TheVariants.{Accepted}
@@ -10,7 +10,6 @@ use Rattle.query.specs.Lines.{line, node_limit}
 use Rattle.text.specs.declared.ReadQuery.{ReadQuery}
 use Rattle.text.specs.declared.line_reader.Cursor.{Cursor}
 use Rattle.text.specs.Lines.{Rest, due, many, ended, node_line}
-use Rattle.text.specs.Texts.{query_value}
 use Rattle.text.specs.Replies.{query_reply}
 use Rattle.text.specs.Cursors.{rest_at}
 

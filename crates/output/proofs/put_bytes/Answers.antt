@@ -1,0 +1,31 @@
+-- `put_bytes` meets its contract: after i turns the first i bytes are put.
+use borrow.Author.Rules.{rules}
+use native.Mathlib.Omega.{arith}
+use native.Mathlib.Numerals.{add-one}
+use Prim.Native.Nat.{ℕ, ◌≤◌, ◌-◌}
+use mathlib.Core.Path.{◌≡◌, sym, ap, ◌∙◌}
+use mathlib.Core.List.{List}
+use lib.ListN.{length, take}
+use lib.Seq.{take-suc, take_all}
+use Rattle.output.specs.Output.{Puts}
+use Rattle.output.proofs.Puts.{puts_none, puts_then, puts_as, puts_length}
+use Rattle.output.proofs.put_bytes.Goals as goal
+
+pub loop-i-preserved : goal.loop-i-preserved
+loop-i-preserved c =
+    let text : List ℕ = c.args.text.now in
+    let i : ℕ = c.loop-i.i in (
+      omega arith,
+      search rules,
+      puts_as (sym (take-suc text i 0 (omega arith)) ∙ ap (λ k. take k text) (sym (add-one i))) (puts_then c.loop-i.invariant.2 c.put_byte-next.ensures),
+    )
+
+pub returns : goal.returns
+returns c = let h : length c.args.text.now ≤ c.loop-i.i = omega arith in
+    puts_as (take_all _ _ h) c.loop-i.invariant.2
+
+pub loop-i-init : goal.loop-i-init
+loop-i-init c = (search rules, search rules, puts_none)
+
+pub shape_of-out : goal.shape_of-out
+shape_of-out c = puts_length c.loop-i.invariant.2
