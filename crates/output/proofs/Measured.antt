@@ -12,7 +12,6 @@ use lib.Dec.{leb}
 use lib.ListN.{length, drop, set, length-set}
 use lib.Seq.{sets, sets-eq}
 use Rattle.laws.specs.Lists.{if◌then◌else◌}
-use Rattle.output.specs.declared.Written.{Written}
 use Rattle.output.specs.declared.Written.TheVariants.{Bytes, Short}
 use Rattle.output.specs.Replies.{write_reply, slice_after}
 use Rattle.output.specs.Output.{Output, output, put_byte, put, Puts}

@@ -1,5 +1,5 @@
 -- A text put into a lent slice byte after byte. The same walk measures it (nothing is stored) and writes it.
-use Rattle.std.specs.Prelude.{◌≡◌, Bool, true, false, List, [], ◌∷◌, ℕ, ◌+◌, leb, length, set}
+use Rattle.std.specs.Prelude.{◌≡◌, Bool, List, [], ◌∷◌, ℕ, ◌+◌, leb, length, set}
 use Rattle.laws.specs.Lists.{if◌then◌else◌}
 
 -- where the next byte goes, and what the slice holds. A place past the slice's end says that the text doesn't fit.

@@ -1,5 +1,5 @@
 -- What a writer of a text replies, and what the lent slice holds afterwards.
-use Rattle.std.specs.Prelude.{Bool, true, false, List, [], ◌∷◌, ◌++◌, ℕ, leb, length, drop}
+use Rattle.std.specs.Prelude.{List, ◌++◌, ℕ, leb, length, drop}
 use Rattle.laws.specs.Lists.{if◌then◌else◌}
 use Rattle.output.specs.declared.Written.{Written}
 use Rattle.output.specs.declared.Written.TheVariants.{Bytes, Short}

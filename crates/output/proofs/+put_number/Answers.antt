@@ -1,7 +1,6 @@
 -- `put_number` meets its contract. The measure is the number: its tenth part is less.
 use borrow.Author.Rules.{rules}
 use native.Mathlib.Omega.{arith}
-use Prim.Native.Nat.{ℕ, ◌<◌}
 use mathlib.Core.Path.{sym}
 use Rattle.output.proofs.Puts.{puts_then, puts_as, puts_length}
 use Rattle.output.proofs.LastDigit.{digits_few, digits_more}

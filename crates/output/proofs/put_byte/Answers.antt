@@ -1,5 +1,4 @@
 -- `put_byte` meets its contract: the byte is stored within the slice, and the place moves up to the end and one past it.
-use borrow.Author.Rules.{rules}
 use native.Mathlib.Omega.{arith}
 use Rattle.output.proofs.Puts.{puts_stored, puts_measured, puts_end, puts_past}
 use Rattle.output.proofs.put_byte.Goals as goal

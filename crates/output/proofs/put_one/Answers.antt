@@ -1,5 +1,4 @@
 -- `put_one` meets its contract: the key, the number and byte 10 one behind the other.
-use borrow.Author.Rules.{rules}
 use Rattle.output.proofs.Puts.{puts_then}
 use Rattle.output.proofs.put_one.Goals as goal
 

@@ -1,5 +1,4 @@
 -- `put_two` meets its contract: the key, the first number, and the second one behind a comma.
-use borrow.Author.Rules.{rules}
 use mathlib.Core.Path.{◌≡◌}
 use mathlib.Core.List.{List, [], ◌∷◌, ◌++◌, append_assoc}
 use Prim.Native.Nat.{ℕ}

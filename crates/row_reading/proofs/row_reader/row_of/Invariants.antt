@@ -1,0 +1,16 @@
+use borrow.Author.Rules.{rules}
+use native.Mathlib.Omega.{arith}
+use Prim.Native.Nat.{ℕ, ◌≤◌, ◌<◌, ◌-◌, ◌+◌}
+use mathlib.Core.Path.{◌≡◌, refl, ap, ap₂, sym, ◌∙◌}
+use lib.ListN.{length, drop, get_or, replicate}
+use Rattle.relation.specs.Rows.{columns}
+use Rattle.text.specs.Lines.{filled}
+use Rattle.row_reading.specs.NumberArrays.{listed}
+use Rattle.row_reading.proofs.RowLists.{listed_next, listed_end, filled_more, filled_all}
+use Rattle.row_reading.proofs.row_reader.row_of.Given as goal
+
+abbrev pub invariant-loop-k : goal.invariant-loop-k
+invariant-loop-k l = (l.k ≤ l.count) × (filled l.row.slots (drop l.k (listed l.cols)) (drop l.k (listed l.values)) ≡ filled (replicate columns 0) (listed l.cols) (listed l.values))
+
+abbrev pub decreases-loop-k : goal.decreases-loop-k
+decreases-loop-k l = l.count - l.k
