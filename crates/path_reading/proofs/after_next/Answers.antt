@@ -1,6 +1,5 @@
 -- `after_next` is the definition, sign by sign.
 use borrow.Author.Tests.{eq-eqb, ne_eqb}
-use borrow.Author.Rules.{rules}
 use Rattle.path_reading.proofs.after_next.Goals as goal
 
 pub returns-then-depth-eq0 : goal.returns-then-depth-eq0

@@ -1,6 +1,5 @@
 -- `due_next` is the definition, sign by sign.
 use borrow.Author.Tests.{ne_eqb}
-use borrow.Author.Rules.{rules}
 use Rattle.path_reading.proofs.due_next.Goals as goal
 
 pub returns-else-d-eq1 : goal.returns-else-d-eq1

@@ -1,6 +1,5 @@
 -- `finished`: the second test is made where the first passes.
 use mathlib.Core.Path.{sym, ◌∙◌}
-use borrow.Author.Rules.{rules}
 use Rattle.path_reading.proofs.finished.Goals as goal
 
 pub returns-then-ended : goal.returns-then-ended

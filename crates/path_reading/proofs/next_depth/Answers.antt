@@ -1,7 +1,6 @@
 -- `next_depth` is the definition, sign by sign.
 use mathlib.Core.Path.{ap, sym, ◌∙◌}
 use Rattle.path_reading.specs.Modes.{depth_next}
-use borrow.Author.Rules.{rules}
 use Rattle.path_reading.proofs.next_depth.Goals as goal
 
 pub returns-in-Enter : goal.returns-in-Enter

@@ -1,7 +1,6 @@
 -- `next_mode` is the definition, mode by mode.
 use mathlib.Core.Path.{ap, sym, ◌∙◌}
 use Rattle.path_reading.specs.Modes.{mode_next}
-use borrow.Author.Rules.{rules}
 use Rattle.path_reading.proofs.next_mode.Goals as goal
 
 pub returns-in-Due : goal.returns-in-Due

@@ -1,6 +1,5 @@
 -- `one_next`: a second digit, or what may follow a primary.
 use mathlib.Core.Path.{sym, ◌∙◌}
-use borrow.Author.Rules.{rules}
 use Rattle.path_reading.proofs.one_next.Goals as goal
 
 pub returns-else-second_digit : goal.returns-else-second_digit

@@ -1,6 +1,5 @@
 -- `primary_next`: `+`, or what may follow an operand.
 use mathlib.Core.Path.{sym, ◌∙◌}
-use borrow.Author.Rules.{rules}
 use Rattle.path_reading.proofs.primary_next.Goals as goal
 
 pub returns-else-repeats : goal.returns-else-repeats

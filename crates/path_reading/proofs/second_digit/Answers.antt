@@ -1,7 +1,6 @@
 -- `second_digit` is the definition, sign by sign.
 use mathlib.Core.Path.{ap, sym}
 use Rattle.path_reading.specs.Modes.{is_second}
-use borrow.Author.Rules.{rules}
 use Rattle.path_reading.proofs.second_digit.Goals as goal
 
 pub returns-in-Digit : goal.returns-in-Digit

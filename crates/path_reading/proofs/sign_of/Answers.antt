@@ -1,6 +1,5 @@
 -- `sign_of`: each test of the definition in its order.
 use mathlib.Core.Path.{ap, sym, ◌∙◌}
-use borrow.Author.Rules.{rules}
 use borrow.Author.Tests.{ne_eqb}
 use Rattle.byte_classes.proofs.Ranges.{inside}
 use Rattle.byte_classes.proofs.Bytes.{digit_byte, no_digit}

@@ -1,4 +1,3 @@
-use borrow.Author.Rules.{rules}
 use mathlib.Core.Path.{ap, sym, ◌∙◌}
 use Rattle.laws.specs.Options.{◌then◌}
 use Rattle.relation.specs.Rows.{columns}

@@ -1,5 +1,4 @@
 -- A turn of the loop is one number more.
-use borrow.Author.Rules.{rules}
 use native.Mathlib.Omega.{arith}
 use Prim.Native.Nat.{ℕ, ◌-◌, ◌≤◌}
 use mathlib.Core.Path.{ap, sym, ◌∙◌}

@@ -1,7 +1,7 @@
 -- The numbers from k on ascend from low on, as all of them do from 0 on.
 use borrow.Author.Rules.{rules}
 use native.Mathlib.Omega.{arith}
-use Prim.Native.Nat.{ℕ, ◌≤◌, ◌-◌, ◌+◌}
+use Prim.Native.Nat.{ℕ, ◌+◌}
 use mathlib.Core.Path.{◌≡◌, refl, ap, sym, ◌∙◌}
 use mathlib.Core.List.{List, ◌∷◌}
 use lib.ListN.{length, drop}
@@ -52,10 +52,10 @@ pub loop-k-init : goal.loop-k-init
 loop-k-init c = (omega arith, refl)
 
 pub returns-then-c-low : goal.returns-then-c-low
-returns-then-c-low c =     sym (within_low columns (low c.before) (value c.before) (rest c.before) c.if-c-low.true) ∙ here c.before ∙ within_columns columns (listed (numbers c.before))
+returns-then-c-low c = sym (within_low columns (low c.before) (value c.before) (rest c.before) c.if-c-low.true) ∙ here c.before ∙ within_columns columns (listed (numbers c.before))
 
 pub returns-then-c-ge-COLUMNS : goal.returns-then-c-ge-COLUMNS
-returns-then-c-ge-COLUMNS c =     sym (within_high columns (low c.before.before) (value c.before.before) (rest c.before.before) c.if-c-ge-COLUMNS.true) ∙ here c.before.before ∙ within_columns columns (listed (numbers c.before.before))
+returns-then-c-ge-COLUMNS c = sym (within_high columns (low c.before.before) (value c.before.before) (rest c.before.before) c.if-c-ge-COLUMNS.true) ∙ here c.before.before ∙ within_columns columns (listed (numbers c.before.before))
 
 pub returns : goal.returns
-returns c =     sym (within_none columns c.loop-k.low) ∙ ap (within columns c.loop-k.low) (sym (listed_end c.args.numbers c.loop-k.k c.loop-k-test.false)) ∙ c.loop-k.invariant.1     ∙ within_columns columns (listed c.args.numbers)
+returns c = sym (within_none columns c.loop-k.low) ∙ ap (within columns c.loop-k.low) (sym (listed_end c.args.numbers c.loop-k.k c.loop-k-test.false)) ∙ c.loop-k.invariant.1 ∙ within_columns columns (listed c.args.numbers)

@@ -1,13 +1,9 @@
-use borrow.Author.Rules.{rules}
-use native.Mathlib.Omega.{arith}
-use Prim.Native.Nat.{ℕ, ◌≤◌, ◌-◌, ◌+◌}
-use mathlib.Core.Path.{◌≡◌, refl, ap, sym, ◌∙◌}
-use mathlib.Core.List.{List, ◌∷◌}
-use lib.ListN.{length, drop}
+use Prim.Native.Nat.{◌≤◌, ◌-◌}
+use mathlib.Core.Path.{◌≡◌}
+use lib.ListN.{drop}
 use Rattle.relation.specs.Rows.{columns}
-use Rattle.row_reading.specs.declared.list_reader.Numbers.{Numbers}
 use Rattle.row_reading.specs.NumberArrays.{listed}
-use Rattle.row_reading.proofs.RowLists.{listed_next, listed_end, within, within_more, within_low, within_high, within_none, within_columns}
+use Rattle.row_reading.proofs.RowLists.{within}
 use Rattle.row_reading.proofs.row_reader.are_columns.Given as goal
 
 abbrev pub invariant-loop-k : goal.invariant-loop-k

@@ -1,4 +1,3 @@
-use borrow.Author.Rules.{rules}
 use mathlib.Core.Path.{ap}
 use Rattle.text.specs.declared.line_reader.Due.TheVariants.{Bad}
 use Rattle.row_reading.proofs.row_reader.no_cols.Goals as goal

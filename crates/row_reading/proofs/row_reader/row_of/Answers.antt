@@ -1,9 +1,9 @@
 -- The columns from k on are still to be filled.
 use borrow.Author.Rules.{rules}
 use native.Mathlib.Omega.{arith}
-use Prim.Native.Nat.{ℕ, ◌≤◌, ◌<◌, ◌-◌, ◌+◌}
+use Prim.Native.Nat.{ℕ, ◌<◌, ◌+◌}
 use mathlib.Core.Path.{◌≡◌, refl, ap, ap₂, sym, ◌∙◌}
-use lib.ListN.{length, drop, get_or, replicate}
+use lib.ListN.{length, drop, get_or}
 use Rattle.relation.specs.Rows.{columns}
 use Rattle.text.specs.Lines.{filled}
 use Rattle.row_reading.specs.NumberArrays.{listed}

@@ -1,12 +1,9 @@
-use borrow.Author.Rules.{rules}
-use native.Mathlib.Omega.{arith}
-use Prim.Native.Nat.{ℕ, ◌≤◌, ◌<◌, ◌-◌, ◌+◌}
-use mathlib.Core.Path.{◌≡◌, refl, ap, ap₂, sym, ◌∙◌}
-use lib.ListN.{length, drop, get_or, replicate}
+use Prim.Native.Nat.{◌≤◌, ◌-◌}
+use mathlib.Core.Path.{◌≡◌}
+use lib.ListN.{drop, replicate}
 use Rattle.relation.specs.Rows.{columns}
 use Rattle.text.specs.Lines.{filled}
 use Rattle.row_reading.specs.NumberArrays.{listed}
-use Rattle.row_reading.proofs.RowLists.{listed_next, listed_end, filled_more, filled_all}
 use Rattle.row_reading.proofs.row_reader.row_of.Given as goal
 
 abbrev pub invariant-loop-k : goal.invariant-loop-k
