@@ -1,0 +1,7 @@
+-- The two entries are stored one behind the other.
+use borrow.Author.Rules.{rules}
+use Rattle.flat.proofs.Blocks.{two}
+use Rattle.flat.proofs.encode.put_table.Goals as goal
+
+pub returns : goal.returns
+returns c = two c.args.out.now c.args.at c.args.bits c.args.rows
