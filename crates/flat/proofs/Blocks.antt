@@ -1,10 +1,10 @@
 -- Blocks of entries written one behind the other into a lent slice, behind one entry of their count. Over any element and any block size.
-use mathlib.Core.Path.{◌≡◌, refl, ap, sym, ◌∙◌}
+use mathlib.Core.Path.{◌≡◌, ap, sym, ◌∙◌}
 use mathlib.Core.List.{List, [], ◌∷◌, ◌++◌, flat_map, append_assoc}
 use Prim.Native.Nat.{ℕ, zero, suc, ◌+◌, ◌*◌, ◌≤◌, ◌<◌}
 use native.Mathlib.Omega.{arith}
 use native.Mathlib.Nat.{mul-suc, mul-zero, mul-le-mul_left}
-use lib.ListN.{length, take, drop, get_or, set, length-append, length-drop, length-take, get_or-append}
+use lib.ListN.{length, take, drop, get_or, set, length-append, length-drop, get_or-append}
 use lib.Seq.{sets, sets-eq, take-append_seam, drop-append-add, get_or-append-add, drop-drop, drop-cons, take_all, length-take-le}
 use Rattle.laws.proofs.FlatMaps.{flat_map_none, flat_map_more}
 use Rattle.flat.specs.Flat.{over}

@@ -1,10 +1,9 @@
 -- A query that is written into a flat slice and decoded again has the same lines, up to its count.
-use mathlib.Core.Path.{◌≡◌, refl, ap, sym, ◌∙◌}
-use mathlib.Core.List.{List, [], ◌∷◌, ◌++◌, map, flat_map}
-use Prim.Native.Nat.{ℕ, suc, ◌+◌, ◌*◌, ◌≤◌, ◌<◌, min}
+use mathlib.Core.Path.{◌≡◌, refl, ap, ◌∙◌}
+use mathlib.Core.List.{List, ◌∷◌, ◌++◌, map, flat_map}
+use Prim.Native.Nat.{ℕ, suc, ◌+◌, ◌*◌, ◌≤◌, ◌<◌}
 use native.Mathlib.Omega.{arith}
-use native.Mathlib.Nat.{min-eq_left, min-le_right}
-use lib.ListN.{length, take, drop, get_or, length-map, length-take, get_or-map}
+use lib.ListN.{length, take, drop, get_or, length-map, get_or-map}
 use lib.Seq.{ext_get_or, get_or-take, length-take-le}
 use Rattle.laws.specs.Lists.{tabulate}
 use Rattle.laws.proofs.Tabulated.{length_tabulate, get_d_tabulate}

@@ -1,5 +1,5 @@
 -- The layout of flat slices: queries and databases of document 01 as entries below 2^32, and a refusal as one number.
-use Rattle.std.specs.Prelude.{Bool, true, false, ◌&&◌, ℕ, zero, suc, ◌+◌, ◌*◌, ◌/◌, ◌%◌, ◌^◌, min, eqb, leb, get_or, take, drop, length}
+use Rattle.std.specs.Prelude.{Bool, ◌&&◌, ℕ, zero, suc, ◌+◌, ◌*◌, ◌/◌, ◌%◌, ◌^◌, min, eqb, leb, get_or, take, drop, length}
 use mathlib.Core.List.{List, [], ◌∷◌, ◌++◌, flat_map}
 use Rattle.laws.specs.Lists.{if◌then◌else◌, tabulate}
 use Rattle.algebra.specs.declared.Pairing.{Pairing}

@@ -94,6 +94,7 @@ NoOne (some (ended primary fs f p)) = Unit {0}
 NoOne (some (ended complete fs f p)) = Unit {0}
 
 due_no_one : (fs : List Frame) (f : Frame) (x : Sign) → NotDigit x → NoOne (due_step fs f x)
+due_no_one fs f (Digit _) h = elim h [ ]
 due_no_one fs f Alternate h = tt
 due_no_one fs f Follow h = tt
 due_no_one fs (frame a s true) Invert h = tt
@@ -104,6 +105,7 @@ due_no_one fs f Leave h = tt
 due_no_one fs f Other h = tt
 
 ended_no_one : (k : Ending) (fs : List Frame) (f : Frame) (p : PropertyPath) (x : Sign) → NotDigit x → NoOne (ended_step k fs f p x)
+ended_no_one k fs f p (Digit _) h = elim h [ ]
 ended_no_one k fs (frame a s i) p Alternate h = tt
 ended_no_one k fs (frame a s i) p Follow h = tt
 ended_no_one k fs f p Invert h = tt
@@ -153,6 +155,7 @@ module _ (G : Schema) (n : Named) where
   quiet_last : (m : State) → NoOne (some m) → Last G quiet m
   unfolding quiet
   quiet_last (due fs f) h = refl
+  quiet_last (ended name-one fs f p) h = elim h [ ]
   quiet_last (ended primary fs f p) h = tt
   quiet_last (ended complete fs f p) h = tt
 

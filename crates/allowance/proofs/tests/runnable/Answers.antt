@@ -1,5 +1,4 @@
 -- `runnable`: the refusal of the check, 16, or what the check hands on.
-use borrow.Author.Rules.{rules}
 use native.Mathlib.Omega.{arith}
 use mathlib.Core.Path.{◌≡◌, refl, ap, sym, ◌∙◌}
 use Prim.Native.Nat.{min}

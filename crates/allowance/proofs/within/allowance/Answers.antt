@@ -1,5 +1,4 @@
 -- `allowance`: the refusal of the tests before 17, or the plan of the term that passes them, and its product.
-use borrow.Author.Rules.{rules}
 use native.Mathlib.Omega.{arith}
 use native.Mathlib.Nat.{le_trans, min-le_right, mul-le-mul}
 use mathlib.Core.Path.{◌≡◌, ap, sym, ◌∙◌, subst}

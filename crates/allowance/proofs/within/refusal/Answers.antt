@@ -1,5 +1,4 @@
 -- `refusal`: a blank plan and no budget beside the refusal.
-use borrow.Author.Rules.{rules}
 use mathlib.Core.Path.{ap}
 use Rattle.database.specs.declared.Verdict.TheVariants.{Refused}
 use Rattle.plan.specs.declared.Plan.{Plan}

@@ -2,11 +2,11 @@
 use borrow.Author.Rules.{rules}
 use borrow.Author.Tests.{eq-eqb, ne_eqb}
 use native.Mathlib.Omega.{arith}
-use Prim.Native.Nat.{ℕ, ◌≤◌, ◌<◌, ◌-◌, ◌+◌, ◌*◌, ◌/◌, ◌%◌, ◌^◌, suc}
+use Prim.Native.Nat.{ℕ, ◌+◌, ◌/◌, ◌%◌, ◌^◌}
 use native.Mathlib.Nat.{div-div-eq-div-mul, div-one, pow-suc}
 use native.Mathlib.Numerals.{add-one}
-use mathlib.Core.Path.{◌≡◌, refl, ap, sym, ◌∙◌}
-use mathlib.Core.Bool.{Bool, true, false}
+use mathlib.Core.Path.{◌≡◌, ap, sym, ◌∙◌}
+use mathlib.Core.Bool.{Bool, false}
 use mathlib.Core.List.{List}
 use lib.ListN.{length}
 use lib.Dec.{eqb}
@@ -27,12 +27,11 @@ loop-c-init c =
     (search rules, sym (div-one _), written_none (ap (λ (s : Columns). length s.has) c.no_columns-set.ensures ∙ length_tabulate no_cols columns))
 
 pub loop-c-preserved : goal.loop-c-preserved
-loop-c-preserved c =
-    (
-      omega arith,
-      halved c.args.bits c.loop-c.c c.loop-c.rest c.loop-c.invariant.1,
-      written_more c.loop-c.c (eqb (c.loop-c.rest % 2) 1) c.loop-c.invariant.2 (omega arith) (ap (λ x. eqb (x % 2) 1) c.loop-c.invariant.1),
-    )
+loop-c-preserved c = (
+  omega arith,
+  halved c.args.bits c.loop-c.c c.loop-c.rest c.loop-c.invariant.1,
+  written_more c.loop-c.c (eqb (c.loop-c.rest % 2) 1) c.loop-c.invariant.2 (omega arith) (ap (λ x. eqb (x % 2) 1) c.loop-c.invariant.1),
+)
 
 -- the loop's end
 module _ (bits c rest : ℕ) (set : List Bool) (last : c ≡ columns) (e : rest ≡ bits / 2 ^ c) (w : Written false (bit bits) columns set c) where

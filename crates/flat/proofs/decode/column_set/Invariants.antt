@@ -1,21 +1,9 @@
-use borrow.Author.Rules.{rules}
-use borrow.Author.Tests.{eq-eqb, ne_eqb}
-use native.Mathlib.Omega.{arith}
-use Prim.Native.Nat.{ℕ, ◌≤◌, ◌<◌, ◌-◌, ◌+◌, ◌*◌, ◌/◌, ◌%◌, ◌^◌, suc}
-use native.Mathlib.Nat.{div-div-eq-div-mul, div-one, pow-suc}
-use native.Mathlib.Numerals.{add-one}
-use mathlib.Core.Path.{◌≡◌, refl, ap, sym, ◌∙◌}
-use mathlib.Core.Bool.{Bool, true, false}
-use mathlib.Core.List.{List}
-use lib.ListN.{length}
-use lib.Dec.{eqb}
-use Rattle.laws.specs.Lists.{if◌then◌else◌}
-use Rattle.laws.proofs.Indexed.{Written, written_none, written_more, written_all}
-use Rattle.laws.proofs.Tabulated.{length_tabulate}
-use Rattle.algebra.specs.Columns.{no_cols}
-use Rattle.relation.specs.declared.Columns.{Columns}
-use Rattle.relation.specs.Rows.{columns, columns_of}
-use Rattle.flat.specs.Flat.{bit, column_set}
+use Prim.Native.Nat.{◌≤◌, ◌-◌, ◌/◌, ◌^◌}
+use mathlib.Core.Path.{◌≡◌}
+use mathlib.Core.Bool.{false}
+use Rattle.laws.proofs.Indexed.{Written}
+use Rattle.relation.specs.Rows.{columns}
+use Rattle.flat.specs.Flat.{bit}
 use Rattle.flat.proofs.decode.column_set.Given as goal
 
 abbrev pub invariant-loop-c : goal.invariant-loop-c

@@ -1,16 +1,9 @@
 -- The columns of the tables below t are decoded.
 use borrow.Author.Rules.{rules}
 use native.Mathlib.Omega.{arith}
-use Prim.Native.Nat.{ℕ, ◌≤◌, ◌-◌, ◌+◌, ◌*◌}
-use mathlib.Core.Path.{◌≡◌, refl, ap, ◌∙◌}
-use mathlib.Core.List.{List, []}
-use lib.ListN.{get_or}
-use Rattle.laws.proofs.Indexed.{Written, written_none, written_more, written_all}
-use Rattle.relation.specs.declared.Columns.{Columns}
-use Rattle.relation.specs.Rows.{columns}
+use mathlib.Core.Path.{◌≡◌, refl}
+use Rattle.laws.proofs.Indexed.{written_none, written_more, written_all}
 use Rattle.database.specs.Stored.{table_limit}
-use Rattle.flat.specs.Flat.{table_width, column_set}
-use Rattle.flat.proofs.decode.decode_columns.Invariants.{decoded, none}
 use Rattle.flat.proofs.decode.decode_columns.Goals as goal
 
 pub loop-t-preserved : goal.loop-t-preserved

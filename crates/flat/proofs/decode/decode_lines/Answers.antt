@@ -1,23 +1,18 @@
 -- The lines below i are decoded.
 use borrow.Author.Rules.{rules}
 use native.Mathlib.Omega.{arith}
-use Prim.Native.Nat.{ℕ, ◌≤◌, ◌-◌}
 use mathlib.Core.Path.{◌≡◌, refl, ap, ◌∙◌}
-use mathlib.Core.List.{List}
-use Rattle.laws.proofs.Indexed.{Written, written_none, written_more, written_all}
-use Rattle.query.specs.declared.Line.{Line}
-use Rattle.query.specs.Lines.{node_limit, line, blank}
-use Rattle.flat.specs.Flat.{node_of, line_at}
-use Rattle.flat.proofs.decode.decode_lines.Invariants.{decoded}
+use Rattle.laws.proofs.Indexed.{written_none, written_more, written_all}
+use Rattle.query.specs.Lines.{node_limit, line}
+use Rattle.flat.specs.Flat.{node_of}
 use Rattle.flat.proofs.decode.decode_lines.Goals as goal
 
 pub loop-i-preserved : goal.loop-i-preserved
-loop-i-preserved c =
-    (
-      omega arith,
-      written_more c.loop-i.i (line c.node_of-node.result) c.loop-i.invariant.1 (omega arith)
-          (ap line (c.node_of-node.ensures ∙ ap node_of c.line_at.ensures)),
-    )
+loop-i-preserved c = (
+  omega arith,
+  written_more c.loop-i.i (line c.node_of-node.result) c.loop-i.invariant.1 (omega arith)
+      (ap line (c.node_of-node.ensures ∙ ap node_of c.line_at.ensures)),
+)
 
 pub returns : goal.returns
 returns c =

@@ -1,9 +1,6 @@
-use borrow.Author.Rules.{rules}
-use native.Mathlib.Omega.{arith}
 use Prim.Native.Nat.{ℕ, ◌≤◌, ◌-◌}
-use mathlib.Core.Path.{◌≡◌, refl, ap, ◌∙◌}
 use mathlib.Core.List.{List}
-use Rattle.laws.proofs.Indexed.{Written, written_none, written_more, written_all}
+use Rattle.laws.proofs.Indexed.{Written}
 use Rattle.query.specs.declared.Line.{Line}
 use Rattle.query.specs.Lines.{node_limit, line, blank}
 use Rattle.flat.specs.Flat.{node_of, line_at}

@@ -1,14 +1,9 @@
 -- The row counts of the tables below t are decoded.
 use borrow.Author.Rules.{rules}
 use native.Mathlib.Omega.{arith}
-use Prim.Native.Nat.{ℕ, ◌≤◌, ◌-◌, ◌+◌, ◌*◌}
-use mathlib.Core.Path.{◌≡◌, refl, ap, ◌∙◌}
-use mathlib.Core.List.{List}
-use lib.ListN.{get_or}
-use Rattle.laws.proofs.Indexed.{Written, written_none, written_more, written_all}
+use mathlib.Core.Path.{◌≡◌, refl}
+use Rattle.laws.proofs.Indexed.{written_none, written_more, written_all}
 use Rattle.database.specs.Stored.{table_limit}
-use Rattle.flat.specs.Flat.{table_width}
-use Rattle.flat.proofs.decode.decode_rows.Invariants.{decoded}
 use Rattle.flat.proofs.decode.decode_rows.Goals as goal
 
 pub loop-t-preserved : goal.loop-t-preserved

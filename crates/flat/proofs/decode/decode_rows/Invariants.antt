@@ -1,10 +1,7 @@
-use borrow.Author.Rules.{rules}
-use native.Mathlib.Omega.{arith}
 use Prim.Native.Nat.{ℕ, ◌≤◌, ◌-◌, ◌+◌, ◌*◌}
-use mathlib.Core.Path.{◌≡◌, refl, ap, ◌∙◌}
 use mathlib.Core.List.{List}
 use lib.ListN.{get_or}
-use Rattle.laws.proofs.Indexed.{Written, written_none, written_more, written_all}
+use Rattle.laws.proofs.Indexed.{Written}
 use Rattle.database.specs.Stored.{table_limit}
 use Rattle.flat.specs.Flat.{table_width}
 use Rattle.flat.proofs.decode.decode_rows.Given as goal

@@ -1,5 +1,4 @@
 -- Each code is its arm's; past all arms no code is left.
-use mathlib.Core.Path.{◌≡◌, ap, sym}
 use borrow.Author.Tests.{ne_eqb}
 use Rattle.flat.specs.Flat.{node_of}
 use native.Mathlib.Omega.{arith}

@@ -2,9 +2,9 @@
 use borrow.Author.Rules.{rules}
 use borrow.Author.Tests.{lt-ltb}
 use native.Mathlib.Omega.{arith}
-use Prim.Native.Nat.{ℕ, ◌≤◌, ◌<◌, ◌-◌, ◌+◌, ◌*◌, ◌^◌}
-use mathlib.Core.Path.{◌≡◌, refl, ap, sym, ◌∙◌}
-use mathlib.Core.Bool.{Bool, false, ◌&&◌}
+use Prim.Native.Nat.{◌≤◌, ◌<◌, ◌+◌, ◌*◌, ◌^◌}
+use mathlib.Core.Path.{refl, ap, sym, ◌∙◌}
+use mathlib.Core.Bool.{false, ◌&&◌}
 use lib.ListN.{get_or}
 use Rattle.laws.specs.Lists.{if◌then◌else◌}
 use Rattle.relation.specs.Rows.{columns, cols_of}
@@ -39,20 +39,18 @@ low : (c : At-loop-c) → (c.loop-c.bits < 2 ^ columns) × (c.loop-c.worth ≤ 2
 low c = (
   omega (arith, c.loop-c.invariant.2, bits_below (cols_of columns c.args.set) c.loop-c.c, power_below c.loop-c.c columns c.loop-c.invariant.0),
   omega (arith, c.loop-c.invariant.1, power_below c.loop-c.c columns c.loop-c.invariant.0),
-
 )
 
 pub loop-c-preserved : goal.loop-c-preserved
-loop-c-preserved c =
-    (
-      omega arith,
-      ap (λ n. n * 2) c.loop-c.invariant.1 ∙ power_more c.loop-c.c,
-      ap (λ n. c.loop-c.bits + n) c.worth_if-bits.ensures
-          ∙ ap (λ n. c.loop-c.bits + (if get_or c.args.set.has c.loop-c.c false then n else 0)) c.loop-c.invariant.1
-          ∙ ap (λ n. n + (if get_or c.args.set.has c.loop-c.c false then 2 ^ c.loop-c.c else 0)) c.loop-c.invariant.2
-          ∙ ap (λ b. bit_set c.loop-c.c (cols_of columns c.args.set) + (if b && get_or c.args.set.has c.loop-c.c false then 2 ^ c.loop-c.c else 0)) (sym (lt-ltb c.loop-c.c columns (omega arith)))
-          ∙ bits_more (cols_of columns c.args.set) c.loop-c.c,
-    )
+loop-c-preserved c = (
+  omega arith,
+  ap (λ n. n * 2) c.loop-c.invariant.1 ∙ power_more c.loop-c.c,
+  ap (λ n. c.loop-c.bits + n) c.worth_if-bits.ensures
+      ∙ ap (λ n. c.loop-c.bits + (if get_or c.args.set.has c.loop-c.c false then n else 0)) c.loop-c.invariant.1
+      ∙ ap (λ n. n + (if get_or c.args.set.has c.loop-c.c false then 2 ^ c.loop-c.c else 0)) c.loop-c.invariant.2
+      ∙ ap (λ b. bit_set c.loop-c.c (cols_of columns c.args.set) + (if b && get_or c.args.set.has c.loop-c.c false then 2 ^ c.loop-c.c else 0)) (sym (lt-ltb c.loop-c.c columns (omega arith)))
+      ∙ bits_more (cols_of columns c.args.set) c.loop-c.c,
+)
 
 pub returns : goal.returns
 returns c =

@@ -1,14 +1,7 @@
-use borrow.Author.Rules.{rules}
-use borrow.Author.Tests.{lt-ltb}
-use native.Mathlib.Omega.{arith}
-use Prim.Native.Nat.{ℕ, ◌≤◌, ◌<◌, ◌-◌, ◌+◌, ◌*◌, ◌^◌}
-use mathlib.Core.Path.{◌≡◌, refl, ap, sym, ◌∙◌}
-use mathlib.Core.Bool.{Bool, false, ◌&&◌}
-use lib.ListN.{get_or}
-use Rattle.laws.specs.Lists.{if◌then◌else◌}
+use Prim.Native.Nat.{◌≤◌, ◌-◌, ◌^◌}
+use mathlib.Core.Path.{◌≡◌}
 use Rattle.relation.specs.Rows.{columns, cols_of}
 use Rattle.flat.specs.Flat.{bit_set}
-use Rattle.flat.proofs.BitSets.{if_below, power_below, power_more, bits_none, bits_more, bits_below}
 use Rattle.flat.proofs.encode.bits_of.Given as goal
 
 abbrev pub invariant-loop-c : goal.invariant-loop-c

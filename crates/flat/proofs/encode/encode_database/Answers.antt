@@ -2,18 +2,17 @@
 use borrow.Author.Rules.{rules}
 use native.Mathlib.Omega.{arith}
 use native.Mathlib.Nat.{min-eq_left, min-le_right}
-use Prim.Native.Nat.{ℕ, ◌≤◌, ◌<◌, ◌-◌, ◌+◌, ◌*◌, min}
-use mathlib.Core.Path.{◌≡◌, refl, ap, sym, ◌∙◌}
+use Prim.Native.Nat.{ℕ, ◌≤◌, ◌<◌, ◌+◌, ◌*◌, min}
+use mathlib.Core.Path.{◌≡◌, ap, sym, ◌∙◌}
 use mathlib.Core.List.{List, [], ◌∷◌}
 use lib.ListN.{length, get_or, set, length-set}
 use lib.Seq.{sets}
 use Rattle.laws.proofs.Tabulated.{length_tabulate, get_d_tabulate}
 use Rattle.relation.specs.Rows.{columns, columns_of}
-use Rattle.database.specs.declared.Database.{Database}
 use Rattle.database.specs.Stored.{table_limit, table_cols}
 use Rattle.flat.specs.Flat.{table_of, table_numbers, table_width, bits_of, entry, entry_limit}
-use Rattle.flat.proofs.Blocks.{begun, begun_none, begun_length, begun_more, begun_all}
-use Rattle.flat.proofs.encode.encode_database.Invariants.{begun_tables, table_size}
+use Rattle.flat.proofs.Blocks.{begun_none, begun_length, begun_more, begun_all}
+use Rattle.flat.proofs.encode.encode_database.Invariants.{table_size}
 use Rattle.flat.proofs.encode.encode_database.Lts as lts
 use Rattle.flat.proofs.encode.encode_database.Reads as reads
 use Rattle.flat.proofs.encode.encode_database.Tie as tie

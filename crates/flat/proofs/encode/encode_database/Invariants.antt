@@ -1,17 +1,10 @@
-use borrow.Author.Rules.{rules}
-use native.Mathlib.Omega.{arith}
-use native.Mathlib.Nat.{min-eq_left, min-le_right}
-use Prim.Native.Nat.{ℕ, ◌≤◌, ◌<◌, ◌-◌, ◌+◌, ◌*◌, min}
-use mathlib.Core.Path.{◌≡◌, refl, ap, sym, ◌∙◌}
-use mathlib.Core.List.{List, [], ◌∷◌}
-use lib.ListN.{length, get_or, set, length-set}
-use lib.Seq.{sets}
-use Rattle.laws.proofs.Tabulated.{length_tabulate, get_d_tabulate}
-use Rattle.relation.specs.Rows.{columns, columns_of}
+use Prim.Native.Nat.{ℕ, ◌≤◌, ◌-◌}
+use mathlib.Core.Path.{◌≡◌, refl}
+use mathlib.Core.List.{List}
+use lib.ListN.{length, get_or}
 use Rattle.database.specs.declared.Database.{Database}
-use Rattle.database.specs.Stored.{table_limit, table_cols}
-use Rattle.flat.specs.Flat.{table_of, table_numbers, table_width, bits_of, entry, entry_limit}
-use Rattle.flat.proofs.Blocks.{begun, begun_none, begun_length, begun_more, begun_all}
+use Rattle.flat.specs.Flat.{table_of, table_numbers, table_width}
+use Rattle.flat.proofs.Blocks.{begun}
 use Rattle.flat.proofs.encode.encode_database.Given as goal
 
 pub table_size : (d : Database) (t : ℕ) → length (table_of d t) ≡ table_width

@@ -1,5 +1,4 @@
 -- A finished run is written; a refusal's number and place are told, and the slice stays.
-use borrow.Author.Rules.{rules}
 use mathlib.Core.Path.{◌∙◌}
 use Rattle.flat.proofs.encode.encode_ended.Goals as goal
 

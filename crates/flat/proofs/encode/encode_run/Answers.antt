@@ -1,9 +1,8 @@
 -- Three entries from the start on.
-use borrow.Author.Rules.{rules}
 use native.Mathlib.Omega.{arith}
-use mathlib.Core.Path.{◌≡◌, ap, ◌∙◌}
+use mathlib.Core.Path.{ap, ◌∙◌}
 use mathlib.Core.List.{[], ◌∷◌}
-use Rattle.flat.specs.Flat.{over, bits_of, entry}
+use Rattle.flat.specs.Flat.{over, bits_of}
 use Rattle.flat.proofs.Blocks.{over_more}
 use Rattle.flat.proofs.encode.encode_run.Goals as goal
 

@@ -1,5 +1,3 @@
-use borrow.Author.Rules.{rules}
-use mathlib.Core.Path.{◌≡◌, refl, ap, sym, ◌∙◌}
 use Rattle.flat.proofs.encode.flat_line.Goals as goal
 
 pub returns-in-Table : goal.returns-in-Table

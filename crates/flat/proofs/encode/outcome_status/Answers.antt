@@ -1,6 +1,5 @@
 -- A refusal's number and place; 0 of a finished run.
-use borrow.Author.Rules.{rules}
-use mathlib.Core.Path.{◌≡◌, ◌∙◌}
+use mathlib.Core.Path.{◌∙◌}
 use Rattle.flat.proofs.encode.outcome_status.Goals as goal
 
 pub returns-in-Refused : goal.returns-in-Refused

@@ -1,5 +1,3 @@
-use borrow.Author.Rules.{rules}
-use mathlib.Core.Path.{◌≡◌, refl, ap, sym, ◌∙◌}
 use Rattle.flat.proofs.encode.pair_line.Goals as goal
 
 pub returns-in-Union : goal.returns-in-Union

@@ -1,5 +1,4 @@
 -- The three entries are stored one behind the other.
-use borrow.Author.Rules.{rules}
 use native.Mathlib.Omega.{arith}
 use lib.ListN.{length-set}
 use Rattle.flat.proofs.Blocks.{three}

@@ -1,5 +1,4 @@
 -- The two entries are stored one behind the other.
-use borrow.Author.Rules.{rules}
 use Rattle.flat.proofs.Blocks.{two}
 use Rattle.flat.proofs.encode.put_table.Goals as goal
 

@@ -1,5 +1,4 @@
-use borrow.Author.Rules.{rules}
-use mathlib.Core.Path.{◌≡◌, refl, ap, sym, ◌∙◌}
+use mathlib.Core.Path.{◌∙◌}
 use Rattle.flat.proofs.encode.status.Goals as goal
 
 pub returns-in-Refused : goal.returns-in-Refused

@@ -20,33 +20,29 @@ use Rattle.query.specs.Passes.{first_of}
 use Rattle.query.proofs.PassLoops.{first_of_faults}
 use Rattle.paths.specs.Sheets.{ends, name_faults}
 use Rattle.paths.proofs.LinkTables.{ends_below}
-use Rattle.path_names.proofs.check_name.Statement.{statement}
+use Rattle.path_names.proofs.check_name.Lts as lts
+use Rattle.path_names.proofs.check_name.Reads as reads
 use Rattle.path_names.proofs.check_name.Tie as tie
+use Rattle.path_names.proofs.check_name.Goals as goal
+
+abbrev After-same_columns-linked : Type 0
+After-same_columns-linked = lts.After-same_columns tie.the-claims reads.Pre reads.Post
 
 abbrev tested : Refusal → Bool → Verdict
 tested r b = verdict (no_fault (unless b r))
 
 -- the table's columns are those of the schema
-linked : (c : tie.After-same-columns) → let a = c.before.before.before.before.args in
-    c.same_columns.result ≡ same_cols columns (table_cols columns a.database a.t) ends
+linked : (c : After-same_columns-linked) → c.same_columns-linked.result ≡ same_cols columns (table_cols columns c.args.database c.args.t) ends
 linked c =
-    let a = c.before.before.before.before.args in
-    c.same_columns.ensures
-    ∙ ap₂ (λ (s t : Columns). same_cols columns (cols_of columns s) (cols_of columns t)) c.before.before.table_columns.ensures c.before.end_columns.ensures
-    ∙ ap₂ (λ (D E : Cols). same_cols columns D E) (columns_round columns _ (table_below columns a.database a.t)) (columns_round columns ends (ends_below columns (omega arith)))
+    c.same_columns-linked.ensures
+    ∙ ap₂ (λ (s t : Columns). same_cols columns (cols_of columns s) (cols_of columns t)) c.table_columns.ensures c.end_columns.ensures
+    ∙ ap₂ (λ (D E : Cols). same_cols columns D E) (columns_round columns _ (table_below columns c.args.database c.args.t)) (columns_round columns ends (ends_below columns (omega arith)))
 
-returns : tie.Need-returns
+pub returns : goal.returns
 unfolding name_faults
 returns c =
-    let k = c.before.before in
-    let a = k.before.before.before.before.before.args in
-    let known : List Refusal = unless (ltb a.t a.database.tables) (NoTable 0) in
-    let linkedFaults : List Refusal = unless (same_cols columns (table_cols columns a.database a.t) ends) (ColumnFault 0) in
+    let known : List Refusal = unless (ltb c.args.t c.args.database.tables) (NoTable 0) in
+    let linkedFaults : List Refusal = unless (same_cols columns (table_cols columns c.args.database c.args.t) ends) (ColumnFault 0) in
     c.first_of.ensures
-    ∙ ap₂ first_of k.accept_if.ensures (c.before.accept-if2.ensures ∙ ap (tested (ColumnFault 0)) (linked k.before))
+    ∙ ap₂ first_of c.accept_if.ensures (c.accept_if-2.ensures ∙ ap (tested (ColumnFault 0)) (linked c.before.before.before))
     ∙ first_of_faults known linkedFaults ∙ ap (λ (l : List Refusal). verdict (no_fault (known ++ l))) (sym (append-nil linkedFaults))
-
-pub check_name_spec : {M : Type 1} → statement M
-check_name_spec =
-    tie.close (tie.spec (λ c κs. search rules) (λ c κs. search rules) (λ c κs. search rules) (λ c κs. search rules) (λ c κs. search rules)
-    (λ c κs. search rules) returns)

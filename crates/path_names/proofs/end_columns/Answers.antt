@@ -6,16 +6,12 @@ use Rattle.algebra.specs.Columns.{no_cols, with}
 use Rattle.relation.specs.declared.Columns.{Columns}
 use Rattle.relation.specs.Rows.{columns, cols_of, columns_of}
 use Rattle.node_columns.proofs.ColumnNodes.{with_same}
-use Rattle.path_names.proofs.end_columns.Statement.{statement}
-use Rattle.path_names.proofs.end_columns.Tie as tie
+use Rattle.path_names.proofs.end_columns.Goals as goal
 
 abbrev more : ℕ → Columns → Columns
 more v s = columns_of columns (with (cols_of columns s) v)
 
-returns : tie.Need-returns
+pub returns : goal.returns
 returns c =
-    c.with-column2.ensures ∙ ap (more 1) (c.before.with_column.ensures ∙ ap (more 0) c.before.before.no_columns.ensures ∙ with_same columns no_cols 0)
+    c.with_column-2.ensures ∙ ap (more 1) (c.with_column.ensures ∙ ap (more 0) c.no_columns.ensures ∙ with_same columns no_cols 0)
     ∙ with_same columns (with no_cols 0) 1
-
-pub end_columns_spec : {M : Type 1} → statement M
-end_columns_spec = tie.close (tie.spec (λ c κs. search rules) (λ c κs. search rules) (λ c κs. search rules) returns)
