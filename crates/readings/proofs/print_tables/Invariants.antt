@@ -2,5 +2,5 @@
 use Rattle.std.specs.Prelude.{◌≤◌, length}
 use Rattle.readings.proofs.print_tables.Given as goal
 
-abbrev pub invariant-loop-from : goal.invariant-loop-from
-invariant-loop-from g l = l.from ≤ length l.store.now
+abbrev pub invariant-loop-t : goal.invariant-loop-t
+invariant-loop-t g l = l.from ≤ length l.store

@@ -2,8 +2,8 @@
 use Rattle.std.specs.Prelude.{◌-◌, ◌≤◌, ◌^◌, ◌<◌, length}
 use Rattle.steps.proofs.apply_lines.Given as goal
 
-abbrev pub invariant-loop : goal.invariant-loop
-invariant-loop g l = length l.steps.now < 2 ^ 64
+abbrev pub invariant-loop-at : goal.invariant-loop-at
+invariant-loop-at g l = length l.steps < 2 ^ 64
 
-abbrev pub decreases-loop : goal.decreases-loop
-decreases-loop g l = length l.steps.now - l.at
+abbrev pub decreases-loop-at : goal.decreases-loop-at
+decreases-loop-at g l = length l.steps - l.at
