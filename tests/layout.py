@@ -4,7 +4,7 @@ import re
 import sys
 
 TOP = pathlib.Path(__file__).resolve().parent.parent
-CRATES = [line.split(":")[0] for line in (TOP / "crates.txt").read_text().splitlines() if line and not line.startswith("#")]
+CRATES = [line.split(":")[0].split()[0] for line in (TOP / "crates.txt").read_text().splitlines() if line and not line.startswith("#")]
 EXAMPLES = {"examples"}
 
 
@@ -138,7 +138,7 @@ def bytes_are_classed_in_one_place():
     """Only `byte_classes` compares a byte with a digit, comma, equals sign or line end, and no code holds a table of 256 entries. Where texts are
     read or written no entry of a slice is compared either, nor anything with the numbers of these bytes."""
     listed = (TOP / "crates.txt").read_text().splitlines()
-    texts = {"text"} | {line.split(":")[0] for line in listed if re.search(r": .*\b(?:byte_classes|text)\b", line)}
+    texts = {"text"} | {line.split(":")[0].split()[0] for line in listed if re.search(r": .*\b(?:byte_classes|text)\b", line)}
     order, equal, byte = r"(?<![=-])[<>]=?", r"[=!]=", r"b'(?:\\.|[^'])'"
     test, bound, value = rf"(?:{order}|{equal})", r"(?:4[7-9]|5[0-8])\b", r"(?:10|44|4[89]|5[0-7]|61)\b"
     anywhere = [rf"{test} *{byte}", rf"{byte} *(?:{test}|=>|\.\.|\|)", r"; *256 *\]"]
