@@ -1,6 +1,6 @@
 /* Capeshard for C: reading, checking, rewriting, compiling and running queries over flat slices.
  *
- * Link with target/staticlib/libcapi.a, which `rt staticlib capi` writes. A slice is a pointer and a count of entries, also where it is empty
+ * Link with crates/capi/out/libcapi.a, which `rt lib` writes in crates/capi. A slice is a pointer and a count of entries, also where it is empty
  * (the pointer is never null). What a call may write must be lent to nobody else while it runs. Nothing else is asked: whatever stands in the
  * slices, each call returns what the definitions of crates/capi/specs say.
  *

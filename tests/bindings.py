@@ -11,13 +11,14 @@ import tempfile
 
 TOP = pathlib.Path(__file__).resolve().parent.parent
 EXPECTED = (TOP / "tests" / "cases" / "reach" / "expected.txt").read_text()
-LIBRARY = TOP / "target" / "staticlib" / "libcapi.a"
+CRATE = TOP / "crates" / "capi"
+LIBRARY = CRATE / "out" / "libcapi.a"
 WARNINGS = ["-Wall", "-Wextra", "-Werror", "-pedantic", f"-I{TOP / 'include'}"]
 
 
-def runs(*command):
+def runs(*command, folder=TOP):
     """What a command prints, or nothing if it fails."""
-    done = subprocess.run([str(word) for word in command], cwd=TOP, capture_output=True, text=True)
+    done = subprocess.run([str(word) for word in command], cwd=folder, capture_output=True, text=True)
     if done.returncode != 0:
         print(done.stdout + done.stderr)
         return None
@@ -29,7 +30,7 @@ def cargo(command, *words):
 
 
 def the_library_is_built():
-    return runs("rt", "staticlib", "capi") is not None
+    return runs("rt", "lib", folder=CRATE) is not None
 
 
 def the_header_is_c_and_cpp():

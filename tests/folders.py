@@ -1,6 +1,7 @@
 """Runs a program in every folder below another: it must print what the folder's expected.txt says. Ends with 'N passed, M failed'.
 
-Usage: folders.py PROGRAM FOLDER, for target/bin/PROGRAM and the folders of tests/FOLDER.
+Usage: folders.py PROGRAM FOLDER, for the program crates/PROGRAM/out/PROGRAM and the folders of tests/FOLDER. `rt ci` leaves the program there, and so does
+`rt run` in its crate's folder.
 """
 import pathlib
 import subprocess
@@ -26,7 +27,7 @@ program, name = sys.argv[1:]
 folders = sorted(path for path in (TOP / "tests" / name).iterdir() if path.is_dir())
 failed = 0
 for folder in folders:
-    wrong = complaint(TOP / "target" / "bin" / program, folder)
+    wrong = complaint(TOP / "crates" / program / "out" / program, folder)
     if wrong:
         failed += 1
         print(f"FAILED {program} in {name}/{folder.name}: {wrong}")

@@ -4,7 +4,7 @@ import re
 import sys
 
 TOP = pathlib.Path(__file__).resolve().parent.parent
-CRATES = [line.split(":")[0] for line in (TOP / "crates.txt").read_text().splitlines() if line and not line.startswith("#")]
+CRATES = [line.split(":")[0].split()[0] for line in (TOP / "crates.txt").read_text().splitlines() if line and not line.startswith("#")]
 EXAMPLES = {"examples"}
 
 
@@ -38,10 +38,10 @@ def the_width_stands_once():
         ("crates/database/specs/Refusals.antt", "number (HalfOpen n) = 8"),
         (
             "crates/algebra/specs/Past.antt",
-            "pastPair k f Join a b = if eqb k 8 then some (past-left f a b) else (if eqb k 9 then some (past-right f a b) else none)",
+            "past_pair k f Join a b = if eqb k 8 then some (past_left f a b) else (if eqb k 9 then some (past_right f a b) else none)",
         ),
-        ("crates/passing/specs/Passing.antt", "pairPassed Join = if eqb k 8 then PastLeft f else if eqb k 9 then PastRight f else Nothing"),
-        ("crates/writing/specs/Rooms.antt", "refusalRoom = lineRoom 8 (numberDigits + 1 + placeDigits)"),
+        ("crates/passing/specs/Passing.antt", "pair_passed Join = if eqb k 8 then PastLeft f else if eqb k 9 then PastRight f else Nothing"),
+        ("crates/writing/specs/Rooms.antt", "refusal_room = line_room 8 (number_digits + 1 + place_digits)"),
     ]
     return [f"{path}: {line}" for path, line in found if (path, line) not in allowed] + [
         f"{path}: {line} is missing" for path, line in allowed if (path, line) not in found
@@ -51,12 +51,12 @@ def the_width_stands_once():
 def the_panels_numbers_agree():
     """Node limit, row limit and workspace of the panel: in the specification, the code, the C header and the Rust wrapper."""
     places = {
-        "crates/machine/specs/Limits.antt": [r"panelLimits = record \{ nodes = (\d+);", r"panelLimits = record \{.* rows = (\d+) \}", None],
+        "crates/machine/specs/Limits.antt": [r"panel_limits = record \{ nodes = (\d+);", r"panel_limits = record \{.* rows = (\d+) \}", None],
         "crates/panel/src/lib.rt": [r"PANEL_NODES: usize = (\d+);", r"PANEL_ROWS: usize = (\d+);", r"PANEL_WORKSPACE: usize = ([^;]*);"],
         "include/capeshard.h": [r"CAPESHARD_PANEL_NODES = (\d+),", r"CAPESHARD_PANEL_ROWS = (\d+),", r"CAPESHARD_PANEL_WORKSPACE =([^}]*)\}"],
         "bindings/rust/src/panel.rs": [r"NODES: usize = (\d+);", r"ROWS: usize = (\d+);", r"WORKSPACE: usize = ([^;]*);"],
     }
-    proved = int(re.search(r"panel-entries : enoughSpace columns panelLimits ≡ (\d+)", (TOP / "crates/panel/proofs/PanelSpace.antt").read_text()).group(1))
+    proved = int(re.search(r"panel_entries : enough_space columns panel_limits ≡ (\d+)", (TOP / "crates/panel/proofs/PanelSpace.antt").read_text()).group(1))
     width = int(re.search(r"^columns = (\d+)", (TOP / "crates/relation/specs/Rows.antt").read_text(), re.M).group(1))
     numbers = {}
     for name, patterns in places.items():
@@ -93,12 +93,12 @@ def every_definition_file_says_what_it_states():
 
 
 def contracts_and_definitions_cite_no_proof():
-    """What is believed stands in specs: neither a contract nor a definition imports from a file of proofs."""
+    """What is believed stands in specs: neither a contract nor a definition imports from a file of proofs. Words of std may stand in std's own."""
     bad = []
     for crate in CRATES:
         for kind, pattern in (("src", "*.rt"), ("specs", "*.antt")):
             for path in sorted((TOP / "crates" / crate / kind).rglob(pattern)):
-                for found in re.findall(r"^(?:ghost )?use Rattle·\w+(?:·proofs)?\.proofs\.\S+", path.read_text(), re.M):
+                for found in re.findall(r"^(?:ghost )?use Rattle\.(?!std\.)\w+\.proofs\.\S+", path.read_text(), re.M):
                     bad.append(f"{path.relative_to(TOP)}: {found}")
     return bad
 
@@ -117,7 +117,7 @@ def the_definitions_to_believe_are_all():
     return [
         f"{name} cites {crate}/specs/{file}"
         for name, text in texts
-        for crate, file in re.findall(r"^use Rattle·(\w+?)(?:·specs\.specs|\.specs)\.(\w+)", text, re.M)
+        for crate, file in re.findall(r"^use Rattle\.(?!std\.)(\w+)\.specs\.(\w+)", text, re.M)
         if file != "declared" and (crate, file) not in listed
     ]
 
@@ -129,16 +129,16 @@ def public_citations(crate, function):
         stated = re.search(rf'^pub (?:extern "C" )?fn {function}\((.*?)\n\{{\n', text, re.S | re.M)
         if stated:
             uses = re.findall(r"^ghost (use \S+?\.\{([^}]*)\});", text, re.M)
-            words = set(re.findall(r"[\w·]+", stated.group(1)))
-            return "\n".join(line for line, names in uses if words & {name.strip() for name in names.split(",")})
-    return f"use Rattle·{crate}.specs.{function}"
+            words = set(re.findall(r"[\w'-]+", stated.group(1)))
+            return "\n".join(line for line, names in uses if words & {name.split(" as ")[-1].strip() for name in names.split(",")})
+    return f"use Rattle.{crate}.specs.{function}"
 
 
 def bytes_are_classed_in_one_place():
     """Only `byte_classes` compares a byte with a digit, comma, equals sign or line end, and no code holds a table of 256 entries. Where texts are
     read or written no entry of a slice is compared either, nor anything with the numbers of these bytes."""
     listed = (TOP / "crates.txt").read_text().splitlines()
-    texts = {"text"} | {line.split(":")[0] for line in listed if re.search(r": .*\b(?:byte_classes|text)\b", line)}
+    texts = {"text"} | {line.split(":")[0].split()[0] for line in listed if re.search(r": .*\b(?:byte_classes|text)\b", line)}
     order, equal, byte = r"(?<![=-])[<>]=?", r"[=!]=", r"b'(?:\\.|[^'])'"
     test, bound, value = rf"(?:{order}|{equal})", r"(?:4[7-9]|5[0-8])\b", r"(?:10|44|4[89]|5[0-7]|61)\b"
     anywhere = [rf"{test} *{byte}", rf"{byte} *(?:{test}|=>|\.\.|\|)", r"; *256 *\]"]
@@ -148,11 +148,21 @@ def bytes_are_classed_in_one_place():
     for crate in CRATES:
         patterns = anywhere + (of_numbers + of_entries) * (crate in texts)
         for path in sorted((TOP / "crates" / crate / "src").rglob("*.rt")) if crate != "byte_classes" else []:
-            for number, line in enumerate(path.read_text().splitlines(), 1):
-                code = "" if "⌜" in line else re.sub(r"//.*", "", line)
+            for number, line in enumerate(without_clauses(path.read_text()).splitlines(), 1):
+                code = re.sub(r"//.*", "", line)
                 if any(re.search(pattern, code) for pattern in patterns):
                     bad.append(f"{path.relative_to(TOP)}:{number}: {line.strip()}")
     return bad
+
+
+def without_clauses(text):
+    """Code with its lines, and no clause, which may take several, and no import for clauses."""
+    kept, depth = [], 0
+    for line in text.splitlines():
+        in_clause = depth > 0 or re.match(r"\s*(?:pub )?(?:ghost|requires|ensures)\b", line)
+        depth += (line.count("{") - line.count("}")) * bool(in_clause)
+        kept.append("" if in_clause else line)
+    return "\n".join(kept)
 
 
 def the_pages_name_files_that_are_there():

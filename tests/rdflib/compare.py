@@ -13,7 +13,7 @@ where that parser refuses, and runs the sheet by capeshard_run, whose rows must 
 counterpart. Paths of over 128 nodes (2) are skipped and counted. The standard has more signs, other names and blanks: no text has
 them, and none has digits that are no name.
 
-Needs target/staticlib/libcapi.a (`rt staticlib capi`), a C compiler, and Debian's python3-rdflib, which /usr/bin/python3 finds; its
+Needs crates/capi/out/libcapi.a (`rt lib` in crates/capi), a C compiler, and Debian's python3-rdflib, which /usr/bin/python3 finds; its
 version is printed.
 """
 import collections
@@ -32,7 +32,7 @@ from rdflib.plugins.sparql.algebra import translateQuery
 from rdflib.plugins.sparql.parser import parseQuery
 
 TOP = pathlib.Path(__file__).resolve().parent.parent.parent
-LIBRARY = TOP / "target" / "staticlib" / "libcapi.a"
+LIBRARY = TOP / "crates" / "capi" / "out" / "libcapi.a"
 COLUMNS, NODES, TABLES, BYTES = 8, 128, 16, 128
 # The layout of include/capeshard.h: the entries of a line and of a table, the code of a fix, and the columns 0 and 1 as bits.
 LINE, TABLE, FIX, LINKING = 3, 2, 13, 3

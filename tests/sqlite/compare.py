@@ -5,7 +5,7 @@ Usage: compare.py [--random SEED COUNT] [FOLDER...]
 FOLDER holds folders of texts, as tests/cases and tests/steps do; --random takes COUNT folders that tests/reference makes from SEED on.
 In each, `answer` runs without steps and, if there are any, with them. Columns, row count and rows in their order must be those of the
 FIRST sheet's statement, since steps may not change them. `ran` has no counterpart in SQL. What `answer` refuses is skipped and counted
-by its number. Needs target/bin/answer (`rt check answer`) and Python's sqlite3 module, whose library is Debian's libsqlite3; its version
+by its number. Needs crates/answer/out/answer (`rt run` in crates/answer) and Python's sqlite3 module, whose library is Debian's libsqlite3; its version
 is printed. The command sqlite3 is not used.
 
 The statement. Each closed node is a common table expression, one rule for each line of document 01's table; a relation without columns
@@ -32,7 +32,7 @@ import tempfile
 from typing import NamedTuple
 
 TOP = pathlib.Path(__file__).resolve().parent.parent.parent
-ANSWER = TOP / "target" / "bin" / "answer"
+ANSWER = TOP / "crates" / "answer" / "out" / "answer"
 REFERENCE = TOP / "tests" / "reference" / "Cargo.toml"
 BATCH = 500
 STEPS = 50_000_000

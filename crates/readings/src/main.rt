@@ -1,19 +1,21 @@
 // Reads the texts of the folder that it is run in, and prints what was read or the first refusal: `step.txt`, a line of a steps file without its
-// last byte; or `database.txt`, a book, and `query.txt`, a sheet, which is checked if both are there. Of these the last is printed.
+// last byte; or `database.txt`, a book, and `query.txt`, a sheet, which is checked if both are there. Of these the last is printed. A write that
+// fails ends the program with its error.
 #![tactic(auto)]
 
-ghost use Rattle.std.specs.Prelude.{◌≤◌};
-ghost use Rattle.io.specs.Counts.{IsPrefixLen};
+ghost use Rattle.std.specs.Prelude.{◌≡◌, ◌≤◌, length, take};
 
 use checking::check;
 use database::{Database, Refusal, TABLE_ROWS, Verdict, row_count, table_columns};
-use libc::STDOUT_FILENO;
 use loading::read_database;
 use output::Written;
 use query::{NODES, Query};
 use query_writing::write_query;
 use reading::{read_query, read_step};
 use relation::{COLUMNS, Columns};
+use std::io::Read;
+use std::rt::Files;
+use std::{fs, io};
 use text::{ReadDatabase, ReadStep};
 use writing::{write_answer, write_refusal};
 
@@ -25,71 +27,89 @@ const FIRST: usize = 8;
 
 const LAST: usize = 6;
 
-fn is_there(name: &[u8]) -> bool {
-    let fd = os::open_read(name);
-    if fd < 0 {
-        return false;
+// Room for a step, a refusal or a sheet that is printed, and for a book, a sheet that is read or a table.
+const SMALL: usize = 4096;
+
+const LARGE: usize = 65_536;
+
+fn is_there(rt: &impl Files, name: &str) -> bool {
+    fs::open(rt, name).is_ok()
+}
+
+// How many bytes were read until the slice is full, the file ends or a read fails.
+fn read_full(file: &mut impl Read, bytes: &mut [u8]) -> usize
+    ensures bound { result ≤ length bytes.new }
+    ensures part { result ≡ length (take result bytes.new) }
+{
+    let mut done = 0;
+    while done < bytes.len() {
+        let n = file.read(&mut bytes[done..]).unwrap_or(0);
+        if n == 0 {
+            break;
+        }
+        done += n;
     }
-    libc::close(fd);
-    true
+    done
 }
 
 // How many bytes of a file were read; none where it is missing.
-fn read_file(name: &[u8], text: &mut [u8]) -> usize
-    ensures { IsPrefixLen result text.new }
+fn read_file(rt: &impl Files, name: &str, text: &mut [u8]) -> usize
+    ensures bound { result ≤ length text.new }
+    ensures part { result ≡ length (take result text.new) }
 {
-    let fd = os::open_read(name);
-    let n = io::read_full(fd, text);
-    libc::close(fd);
-    n
-}
-
-fn print(text: &[u8]) {
-    io::write_all(STDOUT_FILENO, text);
-}
-
-fn print_part(text: &[u8], n: usize) {
-    if n <= text.len() {
-        print(&text[0..n]);
+    match fs::open(rt, name) {
+        Ok(mut file) => read_full(&mut file, text),
+        Err(_) => 0,
     }
 }
 
-fn print_written(w: Written, text: &[u8]) {
+fn print(rt: &impl Print, text: &[u8]) -> io::Result<()> {
+    rt.write_all(text)
+}
+
+fn print_part(rt: &impl Print, text: &[u8], n: usize) -> io::Result<()> {
+    if text.len() < n {
+        return Ok(());
+    }
+    print(rt, &text[0..n])
+}
+
+fn print_written(rt: &impl Print, w: Written, text: &[u8]) -> io::Result<()> {
     match w {
-        Written::Bytes(n) => print_part(text, n),
-        Written::Short => print(b"short\n"),
+        Written::Bytes(n) => print_part(rt, text, n),
+        Written::Short => println!(rt; "short"),
     }
 }
 
-fn print_refusal(r: Refusal) {
-    let mut out = io::buffer();
+fn print_refusal(rt: &impl Print, r: Refusal) -> io::Result<()> {
+    let mut out = [0u8; SMALL];
     let w = write_refusal(r, &mut out);
-    print_written(w, &out);
+    print_written(rt, w, &out)
 }
 
-fn print_query(q: Query) {
-    let mut out = io::buffer();
+fn print_query(rt: &impl Print, q: Query) -> io::Result<()> {
+    let mut out = [0u8; SMALL];
     let w = write_query(q, &mut out);
-    print_written(w, &out);
+    print_written(rt, w, &out)
 }
 
 // The lines of a table: those of an answer but the first and the last.
-fn print_inner(text: &[u8], n: usize) {
+fn print_inner(rt: &impl Print, text: &[u8], n: usize) -> io::Result<()> {
     if n < FIRST + LAST {
-        return;
+        return Ok(());
     }
     if text.len() < n {
-        return;
+        return Ok(());
     }
     let end = n - LAST;
-    print(&text[FIRST..end]);
+    print(rt, &text[FIRST..end])
 }
 
-fn print_table(columns: Columns, rows: &[u32], count: usize) {
-    let mut out = io::large_buffer();
+fn print_table(rt: &impl Print, columns: Columns, rows: &[u32], count: usize) -> io::Result<()> {
+    let mut out = [0u8; LARGE];
     match write_answer(columns, rows, count, 0, &mut out) {
-        Written::Bytes(n) => print_inner(&out, n),
-        Written::Short => print(b"short\n"),
+        Written::Bytes(n) => print_inner(rt, &out, n),
+        Written::Short => println!(rt; "short"),
     }
 }
 
@@ -107,108 +127,100 @@ fn rows_behind(from: usize, count: usize, entries: usize) -> usize
     from + COLUMNS * count
 }
 
-fn print_tables(d: Database, store: &[u32]) {
+fn print_tables(rt: &impl Print, d: Database, store: &[u32]) -> io::Result<()> {
     let tables = d.tables;
     let mut from = 0;
     for t in 0..tables {
         let columns = table_columns(d, t);
         let count = row_count(d, t);
-        print_table(columns, &store[from..], count);
+        print_table(rt, columns, &store[from..], count)?;
         from = rows_behind(from, count, store.len());
     }
+    Ok(())
 }
 
-fn print_database(d: Database, store: &[u32]) {
-    print(b"guide=1\ntables=");
+fn print_database(rt: &impl Print, d: Database, store: &[u32]) -> io::Result<()> {
     let tables = d.tables;
-    io::print_decimal(STDOUT_FILENO, tables as u64);
-    print(b"\n");
-    print_tables(d, store);
+    println!(rt; "guide=1\ntables={tables}")?;
+    print_tables(rt, d, store)
 }
 
-fn print_step(kind: u32, node: u32) {
-    print(b"step=");
-    io::print_decimal(STDOUT_FILENO, kind as u64);
-    print(b",");
-    io::print_decimal(STDOUT_FILENO, node as u64);
-    print(b"\n");
+fn print_step(rt: &impl Print, kind: u32, node: u32) -> io::Result<()> {
+    println!(rt; "step={kind},{node}")
 }
 
-fn show_step() {
-    let mut text = io::buffer();
-    let n = read_file(b"step.txt", &mut text);
+fn show_step(rt: &(impl Files + Print)) -> io::Result<()> {
+    let mut text = [0u8; SMALL];
+    let n = read_file(rt, "step.txt", &mut text);
     match read_step(&text[..n]) {
-        ReadStep::Step { kind, node } => print_step(kind, node),
-        ReadStep::Bad => print_refusal(Refusal::NoMatch),
+        ReadStep::Step { kind, node } => print_step(rt, kind, node),
+        ReadStep::Bad => print_refusal(rt, Refusal::NoMatch),
     }
 }
 
-fn show_query() {
-    let mut text = io::large_buffer();
-    let n = read_file(b"query.txt", &mut text);
+fn show_query(rt: &(impl Files + Print)) -> io::Result<()> {
+    let mut text = [0u8; LARGE];
+    let n = read_file(rt, "query.txt", &mut text);
     let read = read_query(&text[..n], NODES);
     let q = read.query;
     let verdict = read.verdict;
     match verdict {
-        Verdict::Accepted => print_query(q),
-        Verdict::Refused(r) => print_refusal(r),
+        Verdict::Accepted => print_query(rt, q),
+        Verdict::Refused(r) => print_refusal(rt, r),
     }
 }
 
-fn show_checked(q: Query, d: Database, store: &[u32]) {
+fn show_checked(rt: &impl Print, q: Query, d: Database, store: &[u32]) -> io::Result<()> {
     let checked = check(q, d, store, NODES);
     let verdict = checked.verdict;
     match verdict {
-        Verdict::Accepted => print_query(q),
-        Verdict::Refused(r) => print_refusal(r),
+        Verdict::Accepted => print_query(rt, q),
+        Verdict::Refused(r) => print_refusal(rt, r),
     }
 }
 
-fn show_query_over(d: Database, store: &[u32]) {
-    let mut text = io::large_buffer();
-    let n = read_file(b"query.txt", &mut text);
+fn show_query_over(rt: &(impl Files + Print), d: Database, store: &[u32]) -> io::Result<()> {
+    let mut text = [0u8; LARGE];
+    let n = read_file(rt, "query.txt", &mut text);
     let read = read_query(&text[..n], NODES);
     let q = read.query;
     let verdict = read.verdict;
     match verdict {
-        Verdict::Accepted => show_checked(q, d, store),
-        Verdict::Refused(r) => print_refusal(r),
+        Verdict::Accepted => show_checked(rt, q, d, store),
+        Verdict::Refused(r) => print_refusal(rt, r),
     }
 }
 
-fn show_stored(d: Database, store: &[u32]) {
-    if is_there(b"query.txt") {
-        show_query_over(d, store);
-        return;
+fn show_stored(rt: &(impl Files + Print), d: Database, store: &[u32]) -> io::Result<()> {
+    if is_there(rt, "query.txt") {
+        return show_query_over(rt, d, store);
     }
-    print_database(d, store);
+    print_database(rt, d, store)
 }
 
-fn show_loaded(read: ReadDatabase, store: &[u32]) {
+fn show_loaded(rt: &(impl Files + Print), read: ReadDatabase, store: &[u32]) -> io::Result<()> {
     let d = read.database;
     let verdict = read.verdict;
     match verdict {
-        Verdict::Accepted => show_stored(d, store),
-        Verdict::Refused(r) => print_refusal(r),
+        Verdict::Accepted => show_stored(rt, d, store),
+        Verdict::Refused(r) => print_refusal(rt, r),
     }
 }
 
-fn show_database() {
+fn show_database(rt: &(impl Files + Print)) -> io::Result<()> {
     let mut store = [0u32; STORE];
-    let mut text = io::large_buffer();
-    let n = read_file(b"database.txt", &mut text);
+    let mut text = [0u8; LARGE];
+    let n = read_file(rt, "database.txt", &mut text);
     let read = read_database(&text[..n], &mut store);
-    show_loaded(read, &store);
+    show_loaded(rt, read, &store)
 }
 
-fn main() {
-    if is_there(b"step.txt") {
-        show_step();
-        return;
+fn main(rt: HostRuntime) -> io::Result<()> {
+    if is_there(&rt, "step.txt") {
+        return show_step(&rt);
     }
-    if is_there(b"database.txt") {
-        show_database();
-        return;
+    if is_there(&rt, "database.txt") {
+        return show_database(&rt);
     }
-    show_query();
+    show_query(&rt)
 }
