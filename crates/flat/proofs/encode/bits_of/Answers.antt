@@ -6,7 +6,7 @@ use Prim.Native.Nat.{◌≤◌, ◌<◌, ◌+◌, ◌*◌, ◌^◌}
 use mathlib.Core.Path.{refl, ap, sym, ◌∙◌}
 use mathlib.Core.Bool.{false, ◌&&◌}
 use lib.ListN.{get_or}
-use Rattle.laws.specs.Lists.{if◌then◌else◌}
+use Rattle.laws.specs.Lists.{when◌then◌else◌}
 use Rattle.relation.specs.Rows.{columns, cols_of}
 use Rattle.flat.specs.Flat.{bit_set}
 use Rattle.flat.proofs.BitSets.{if_below, power_below, power_more, bits_none, bits_more, bits_below}
@@ -46,9 +46,9 @@ loop-c-preserved c = (
   omega arith,
   ap (λ n. n * 2) c.loop-c.invariant.1 ∙ power_more c.loop-c.c,
   ap (λ n. c.loop-c.bits + n) c.worth_if-bits.ensures
-      ∙ ap (λ n. c.loop-c.bits + (if get_or c.args.set.has c.loop-c.c false then n else 0)) c.loop-c.invariant.1
-      ∙ ap (λ n. n + (if get_or c.args.set.has c.loop-c.c false then 2 ^ c.loop-c.c else 0)) c.loop-c.invariant.2
-      ∙ ap (λ b. bit_set c.loop-c.c (cols_of columns c.args.set) + (if b && get_or c.args.set.has c.loop-c.c false then 2 ^ c.loop-c.c else 0)) (sym (lt-ltb c.loop-c.c columns (omega arith)))
+      ∙ ap (λ n. c.loop-c.bits + (when get_or c.args.set.has c.loop-c.c false then n else 0)) c.loop-c.invariant.1
+      ∙ ap (λ n. n + (when get_or c.args.set.has c.loop-c.c false then 2 ^ c.loop-c.c else 0)) c.loop-c.invariant.2
+      ∙ ap (λ b. bit_set c.loop-c.c (cols_of columns c.args.set) + (when b && get_or c.args.set.has c.loop-c.c false then 2 ^ c.loop-c.c else 0)) (sym (lt-ltb c.loop-c.c columns (omega arith)))
       ∙ bits_more (cols_of columns c.args.set) c.loop-c.c,
 )
 

@@ -3,7 +3,7 @@ use borrow.Author.Tests.{eq-eqb, ne_eqb}
 use mathlib.Core.Path.{ap, sym, ◌∙◌}
 use mathlib.Core.Bool.{Bool}
 use lib.Dec.{eqb}
-use Rattle.laws.specs.Lists.{if◌then◌else◌}
+use Rattle.laws.specs.Lists.{when◌then◌else◌}
 use Rattle.passing.specs.declared.Passed.{Passed}
 use Rattle.passing.specs.declared.Passed.TheVariants.{Nothing, PastLeft, PastRight}
 use Rattle.passing.specs.Passing.{pair_passed}
@@ -17,7 +17,7 @@ Start = lts.Start tie.the-claims reads.Pre reads.Post
 
 -- a join: kind 8 first
 abbrev join : Start → Bool → Passed
-join s b = if b then PastLeft s.args.condition else if eqb s.args.kind 9 then PastRight s.args.condition else Nothing
+join s b = when b then PastLeft s.args.condition else when eqb s.args.kind 9 then PastRight s.args.condition else Nothing
 
 pub returns-then-kind-eq8 : goal.returns-then-kind-eq8
 returns-then-kind-eq8 c =
