@@ -4,7 +4,7 @@ use mathlib.Core.Bool.{Bool, true, false, ◌||◌, or_assoc, or_comm}
 use mathlib.Core.Logic.{inl, inr, ◌≢◌}
 use Prim.Native.Nat.{ℕ}
 use lib.Dec.{eqb}
-use Rattle.laws.specs.Lists.{if◌then◌else◌}
+use Rattle.laws.specs.Lists.{when◌then◌else◌}
 use Rattle.laws.proofs.Tests.{same?, or_swap, or_true_right}
 use Rattle.algebra.specs.Columns.{Cols, with, without, both}
 
@@ -39,7 +39,7 @@ pub with_both : (D O : Cols) (d : ℕ) → with (both D O) d ≡ both (with D d)
 unfolding with both
 with_both D O d = fun_ext λ c. at_column (eqb c d) (D c) (O c)
   where
-    at_column : (b i j : Bool) → (if b then true else i || j) ≡ (if b then true else i) || j
+    at_column : (b i j : Bool) → (when b then true else i || j) ≡ (when b then true else i) || j
     at_column true i j = refl
     at_column false i j = refl
 
@@ -62,7 +62,7 @@ pub without_without : (D : Cols) (b d : ℕ) → without (without D d) b ≡ wit
 unfolding without
 without_without D b d = fun_ext λ c. at_column (eqb c b) (eqb c d) (D c)
   where
-    at_column : (i j o : Bool) → (if i then false else (if j then false else o)) ≡ (if j then false else (if i then false else o))
+    at_column : (i j o : Bool) → (when i then false else (when j then false else o)) ≡ (when j then false else (when i then false else o))
     at_column true true o = refl
     at_column true false o = refl
     at_column false true o = refl

@@ -6,7 +6,7 @@ use mathlib.Core.Logic.{inl, inr}
 use Prim.Native.Nat.{ℕ}
 use lib.Dec.{eqb}
 use borrow.Author.Tests.{eqb-true}
-use Rattle.laws.specs.Lists.{if◌then◌else◌}
+use Rattle.laws.specs.Lists.{when◌then◌else◌}
 use Rattle.laws.proofs.Tests.{true_false, eqb_self, same?, if_same}
 use Rattle.laws.proofs.Options.{none_some, some_inj}
 use Rattle.algebra.specs.declared.Pairing.TheVariants.{Union, Join, Except}
@@ -52,7 +52,7 @@ module _ {G : Schema} (C : Cols) where
   join_right_origin b p e = rw (closed_origin C e p)
 
 -- what came out of the variable
-own_origin : (i : Bool) (e b : ℕ) → (if i then some e else none) ≡ some b → (i ≡ true) × (e ≡ b)
+own_origin : (i : Bool) (e b : ℕ) → (when i then some e else none) ≡ some b → (i ≡ true) × (e ≡ b)
 own_origin true e b h = (refl, some_inj h)
 own_origin false e b h = none_some h
 

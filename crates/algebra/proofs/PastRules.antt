@@ -7,7 +7,7 @@ use mathlib.Core.Logic.{inl, inr, ◌↔◌}
 use Prim.Native.Nat.{ℕ, ◌+◌, ◌≤◌}
 use native.Mathlib.Omega.{arith}
 use lib.Dec.{eqb}
-use Rattle.laws.specs.Lists.{if◌then◌else◌}
+use Rattle.laws.specs.Lists.{when◌then◌else◌}
 use Rattle.laws.proofs.Options.{none_some, some_inj}
 use Rattle.laws.proofs.Tests.{true_false, same?}
 use Rattle.laws.proofs.Lists.{count}
@@ -44,7 +44,7 @@ module _ (P : ℕ → Term → Past → Type 0)
     (at-filter : (f g : Condition) (a : Term) → P 11 (filter f (filter g a)) (past_filter f g a))
     (k : ℕ) {m : Past} where
   -- one test of the kind
-  at_kind : (n : ℕ) (a : Term) (x : Past) → P n a x → (o : Option Past) → (o ≡ some m → P k a m) → (if eqb k n then some x else o) ≡ some m → P k a m
+  at_kind : (n : ℕ) (a : Term) (x : Past) → P n a x → (o : Option Past) → (o ≡ some m → P k a m) → (when eqb k n then some x else o) ≡ some m → P k a m
   at_kind n a x h o other e = elim (same? k n) [
     | inl (j, i) ↦ subst (P k a) (some_inj (rw i at e)) (subst (λ (l : ℕ). P l a x) (sym j) h)
     | inr (_, i) ↦ other (rw i at e)
@@ -102,7 +102,7 @@ side_iff G C (past_except f a b) = ((λ _. tt), λ _. refl)
 side_iff G C (past_filter f g a) = ((λ _. tt), λ _. refl)
 
 -- "Kind 7 adds a node", the others none
-pub moved_size : (m : Past) → size (moved m) ≡ size (past_node m) + (if adds_node m then 1 else 0)
+pub moved_size : (m : Past) → size (moved m) ≡ size (past_node m) + (when adds_node m then 1 else 0)
 unfolding moved size adds_node
 moved_size (past_union f a b) = omega arith
 moved_size (past_left f a b) = omega arith

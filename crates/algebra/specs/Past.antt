@@ -1,7 +1,7 @@
 -- The five rules of document 02's "Filters past the ordinary lines", on terms: what each kind finds, asks and writes. The node is the filter's.
 use Rattle.std.specs.Prelude.{◌≡◌, Bool, true, false, ℕ, eqb}
 use Rattle.std.proofs.Math.Option.{Option, some, none}
-use Rattle.laws.specs.Lists.{if◌then◌else◌, every}
+use Rattle.laws.specs.Lists.{when◌then◌else◌, every}
 use Rattle.algebra.specs.declared.Pairing.{Pairing}
 use Rattle.algebra.specs.declared.Pairing.TheVariants.{Union, Join, Except}
 use Rattle.algebra.specs.declared.Condition.{Condition}
@@ -18,9 +18,9 @@ pub data Past : Type 0 where
   past_filter : Condition → Condition → Term → Past  -- "11 exchanges two filters": the upper, the lower
 
 unfoldable pub past_pair : ℕ → Condition → Pairing → Term → Term → Option Past
-past_pair k f Union a b = if eqb k 7 then some (past_union f a b) else none
-past_pair k f Join a b = if eqb k 8 then some (past_left f a b) else (if eqb k 9 then some (past_right f a b) else none)
-past_pair k f Except a b = if eqb k 10 then some (past_except f a b) else none
+past_pair k f Union a b = when eqb k 7 then some (past_union f a b) else none
+past_pair k f Join a b = when eqb k 8 then some (past_left f a b) else (when eqb k 9 then some (past_right f a b) else none)
+past_pair k f Except a b = when eqb k 10 then some (past_except f a b) else none
 
 -- what kind k finds under a filter
 unfoldable pub under_filter : ℕ → Condition → Term → Option Past
@@ -28,7 +28,7 @@ under_filter k f (table t) = none
 under_filter k f (var v) = none
 under_filter k f (fact c x) = none
 under_filter k f (pair o a b) = past_pair k f o a b
-under_filter k f (filter g a) = if eqb k 11 then some (past_filter f g a) else none
+under_filter k f (filter g a) = when eqb k 11 then some (past_filter f g a) else none
 under_filter k f (copy c d a) = none
 under_filter k f (drop c a) = none
 under_filter k f (last c a) = none  -- "`last` is no filter in these rules."

@@ -6,7 +6,7 @@ use Prim.Native.Nat.{ℕ, ◌≤◌}
 use native.Mathlib.Omega.{arith}
 use lib.Dec.{eqb}
 use lib.ListN.{get_or, length}
-use Rattle.laws.specs.Lists.{if◌then◌else◌}
+use Rattle.laws.specs.Lists.{when◌then◌else◌}
 use Rattle.laws.proofs.SiftedLists.{sift_shorter}
 use Rattle.algebra.specs.Term.{Term}
 use Rattle.algebra.specs.Columns.{Cols, Schema}
@@ -30,7 +30,7 @@ module _ (L : ℕ) where
   few_write : (m : Registers) (d : ℕ) (rows : Rows) → Few m → length rows ≤ L → Few (write m d rows)
   few_write m d rows h g i = by_test (eqb i d)
     where
-      by_test : (b : Bool) → length (if b then rows else m i) ≤ L
+      by_test : (b : Bool) → length (when b then rows else m i) ≤ L
       by_test true = g
       by_test false = h i
 

@@ -9,7 +9,7 @@ use lib.Dec.{leb}
 use lib.ListN.{length, drop as dropFirst, length-append, length-drop}
 use lib.Seq.{drop_at, take-append-le, drop-append-le}
 use borrow.Author.Tests.{le-leb, lt-leb}
-use Rattle.laws.specs.Lists.{if◌then◌else◌}
+use Rattle.laws.specs.Lists.{when◌then◌else◌}
 use Rattle.laws.proofs.Options.{none_some}
 use Rattle.algebra.specs.Term.{Term}
 use Rattle.algebra.specs.Columns.{Cols, Schema, with, without, pair_cols, cols, size}
@@ -124,7 +124,7 @@ module _ (G : Schema) {a : Term} (b : Term) (same_cols_lem : (C : Cols) → cols
   around_beside same (itself e) C m k (first c) = around_past G C b m (omega arith) ∙ sym (around_past G C a m (omega arith))
   around_beside same (itself e) C m k (last c) = absurd (omega arith)
   around_beside same (in_left {l = l} {r = r} h) C m k c =
-      rw (puts_size h b same) (ap (λ (D : Cols). if leb m (size l) then D else around G C r (m - size l)) (around_beside same h C m k c))
+      rw (puts_size h b same) (ap (λ (D : Cols). when leb m (size l) then D else around G C r (m - size l)) (around_beside same h C m k c))
   around_beside same (in_right {m = j} {l = l} e h) C m k c = elim (dec_le m (size l)) [
     | yes i ↦ rw (le-leb m (size l) i)
     | no i ↦
@@ -137,12 +137,12 @@ module _ (G : Schema) {a : Term} (b : Term) (same_cols_lem : (C : Cols) → cols
   around_beside same (in_last h) C m k c = around_beside same h C m k c
   around_beside same (in_seed {s = s} {t = t} h) C m k c =
       rw (puts_size h b same, puts_cols h C)
-      (ap (λ (D : Cols). if leb m (size s) then D else (if leb m (size s + size t) then around G (cols G C s) t (m - size s) else C)) (around_beside same h C m k c))
+      (ap (λ (D : Cols). when leb m (size s) then D else (when leb m (size s + size t) then around G (cols G C s) t (m - size s) else C)) (around_beside same h C m k c))
   around_beside same (in_step {m = j} {s = s} {t = t} e h) C m k c = elim (dec_le m (size s)) [
     | yes i ↦ rw (le-leb m (size s) i)
     | no i ↦
         rw (lt-leb m (size s) (omega arith), puts_size h b same)
-        (ap (λ (D : Cols). if leb m (size s + size t) then D else C)
+        (ap (λ (D : Cols). when leb m (size s + size t) then D else C)
         (around_beside same h (cols G C s) (m - size s) (omega arith) (clear_less (size s) j (m - size s) e (omega arith) c)))
   ]
   around_beside same (in_mu h) C m k c = around_beside same h C m k c

@@ -6,7 +6,7 @@ use mathlib.Core.Path.{◌≡◌, refl}
 use mathlib.Core.Bool.{Bool, true, false}
 use mathlib.Core.Option.{some, none}
 use lib.Dec.{eqb}
-use Rattle.laws.specs.Lists.{if◌then◌else◌}
+use Rattle.laws.specs.Lists.{when◌then◌else◌}
 use Rattle.laws.specs.Options.{mapped, present}
 use Rattle.byte_classes.specs.Classes.{within, place_in, is_in, decimal, lower_case}
 use Rattle.byte_classes.proofs.Ranges.{runs, in_range_lem, placed}
@@ -28,6 +28,6 @@ pub sign_in : (c : Char) (b : ℕ) → is_in (c then end) b ≡ eqb b (code c)
 unfolding place_in
 sign_in c b = by_test (eqb b (code c))
   where
-    by_test : (t : Bool) → present (if t then some zero else mapped suc none) ≡ t
+    by_test : (t : Bool) → present (when t then some zero else mapped suc none) ≡ t
     by_test true = refl
     by_test false = refl

@@ -7,7 +7,7 @@ use mathlib.Core.Bool.{Bool, true, false, not}
 use native.Mathlib.Omega.{arith}
 use borrow.Author.Tests.{eqb-true}
 use lib.Dec.{eqb}
-use Rattle.laws.specs.Lists.{if◌then◌else◌, every}
+use Rattle.laws.specs.Lists.{when◌then◌else◌, every}
 use Rattle.laws.proofs.EachMember.{every_each}
 use Rattle.laws.proofs.Tests.{not-false}
 use Rattle.byte_classes.specs.declared.ByteClass.{ByteClass}
@@ -51,7 +51,7 @@ belongs b = by_tests_lem (within 48 57 b) refl (within 97 122 b) refl (eqb b 44)
   where
     by_tests_lem : (t : Bool) → within 48 57 b ≡ t → (u : Bool) → within 97 122 b ≡ u → (v : Bool) → eqb b 44 ≡ v
         → (x : Bool) → eqb b 61 ≡ x → (y : Bool) → eqb b 10 ≡ y
-        → Belongs b (if t then Digit (b - 48) else (if u then Letter else (if v then Comma else (if x then Equals else (if y then LineEnd else Other)))))
+        → Belongs b (when t then Digit (b - 48) else (when u then Letter else (when v then Comma else (when x then Equals else (when y then LineEnd else Other)))))
     by_tests_lem true et u eu v ev x ex y ey = place decimal 48 57 b refl ∙ simp et
     by_tests_lem false et true eu v ev x ex y ey = letter_in b ∙ eu
     by_tests_lem false et false eu true ev x ex y ey = sign_in "," b ∙ ev

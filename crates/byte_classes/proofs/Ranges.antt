@@ -10,7 +10,7 @@ use mathlib.Core.Option.{some, none}
 use native.Mathlib.Omega.{arith}
 use borrow.Author.Tests.{le-leb, lt-leb, leb-true, leb-false, eqb-true, eq-eqb, ne_eqb}
 use lib.Dec.{eqb, leb}
-use Rattle.laws.specs.Lists.{if◌then◌else◌}
+use Rattle.laws.specs.Lists.{when◌then◌else◌}
 use Rattle.laws.specs.Options.{mapped, present}
 use Rattle.laws.proofs.EmptyLists.{true_or_false}
 use Rattle.laws.proofs.Options.{none_some, some_inj}
@@ -76,7 +76,7 @@ place_inside (c then s) a z b e h k =
     ]
 
 -- the place of a byte in a text that is a range
-pub place : (s : String) (a z b : ℕ) → runs a (suc z) s ≡ true → place_in s b ≡ (if within a z b then some (b - a) else none)
+pub place : (s : String) (a z b : ℕ) → runs a (suc z) s ≡ true → place_in s b ≡ (when within a z b then some (b - a) else none)
 place s a z b e = elim (range? a z b) [
   | inl (h, k) ↦ rw (inside a z b h k) (place_inside s a (suc z) b e h (omega (arith, k)))
   | inr h ↦ rw (outside a z b h) (place_outside s a (suc z) b e (⊎_elim (λ k. inl k) (λ k. inr (omega (arith, k))) h))
@@ -85,7 +85,7 @@ place s a z b e = elim (range? a z b) [
 pub in_range_lem : (s : String) (a z b : ℕ) → runs a (suc z) s ≡ true → is_in s b ≡ within a z b
 in_range_lem s a z b e = ap present (place s a z b e) ∙ by_test (within a z b)
   where
-    by_test : (t : Bool) → present (if t then some (b - a) else none) ≡ t
+    by_test : (t : Bool) → present (when t then some (b - a) else none) ≡ t
     by_test true = refl
     by_test false = refl
 
@@ -93,6 +93,6 @@ in_range_lem s a z b e = ap present (place s a z b e) ∙ by_test (within a z b)
 pub placed : (s : String) (a z b d : ℕ) → runs a (suc z) s ≡ true → place_in s b ≡ some d → (a ≤ b) × ((b ≤ z) × (d ≡ b - a))
 placed s a z b d e h = by_test (within a z b) refl (sym (place s a z b e) ∙ h)
   where
-    by_test : (t : Bool) → within a z b ≡ t → (if t then some (b - a) else none) ≡ some d → (a ≤ b) × ((b ≤ z) × (d ≡ b - a))
+    by_test : (t : Bool) → within a z b ≡ t → (when t then some (b - a) else none) ≡ some d → (a ≤ b) × ((b ≤ z) × (d ≡ b - a))
     by_test true w q = let (k, l) = ends a z b w in (k, (l, sym (some_inj q)))
     by_test false w q = none_some q

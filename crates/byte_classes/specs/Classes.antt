@@ -3,7 +3,7 @@ use Rattle.std.specs.Prelude.{◌≡◌, Bool, true, not, ◌&&◌, List, [], �
 use Rattle.std.proofs.Math.Option.{Option, some, none}
 use Prim.Native.Char.{code}
 use Prim.Native.String.{String, [] as end, ◌∷◌ as ◌then◌}
-use Rattle.laws.specs.Lists.{if◌then◌else◌, every}
+use Rattle.laws.specs.Lists.{when◌then◌else◌, every}
 use Rattle.laws.specs.Options.{mapped, present}
 use Rattle.byte_classes.specs.declared.ByteClass.{ByteClass}
 use Rattle.byte_classes.specs.declared.ByteClass.TheVariants.{Digit, Letter, Comma, Equals, LineEnd, Other}
@@ -15,16 +15,16 @@ within first last b = leb first b && leb b last
 -- "test bytes by their ranges"; a digit comes with its value
 unfoldable pub class_of : ℕ → ByteClass
 class_of b =
-    if within 48 57 b then Digit (b - 48) else (
-    if within 97 122 b then Letter else (
-    if eqb b 44 then Comma else (
-    if eqb b 61 then Equals else (
-    if eqb b 10 then LineEnd else Other))))
+    when within 48 57 b then Digit (b - 48) else (
+    when within 97 122 b then Letter else (
+    when eqb b 44 then Comma else (
+    when eqb b 61 then Equals else (
+    when eqb b 10 then LineEnd else Other))))
 
 -- the place of a byte among the characters of a text, from 0
 unfoldable pub place_in : String → ℕ → Option ℕ
 place_in end b = none
-place_in (c then s) b = if eqb b (code c) then some zero else mapped suc (place_in s b)
+place_in (c then s) b = when eqb b (code c) then some zero else mapped suc (place_in s b)
 
 abbrev pub is_in : String → ℕ → Bool
 is_in s b = present (place_in s b)

@@ -8,7 +8,7 @@ use lib.Dec.{ltb}
 use borrow.Author.Tests.{ltb-true}
 use lib.ListN.{length, get_or, take}
 use lib.Seq.{length-take-le}
-use Rattle.laws.specs.Lists.{every, ◌==◌}
+use Rattle.laws.specs.Lists.{every, ◌iff◌}
 use Rattle.laws.proofs.Tests.{and_true_left, and_true_right}
 use Rattle.laws.proofs.Passes.{every_same, all_same}
 use Rattle.algebra.specs.declared.Pairing.{Pairing}
@@ -51,7 +51,7 @@ fault_of (Mu v) tables last first n = accepted tt
 
 -- sets are compared below the width, where they are held
 held_same : (D E : Cols) → same_cols columns (cols_of columns (columns_of columns D)) (cols_of columns (columns_of columns E)) ≡ same_cols columns D E
-held_same D E = all_same _ _ columns λ c h. ap₂ (λ (s t : Bool). s == t) (columns_at_lem columns D c h) (columns_at_lem columns E c h)
+held_same D E = all_same _ _ columns λ c h. ap₂ (λ (s t : Bool). s iff t) (columns_at_lem columns D c h) (columns_at_lem columns E c h)
 
 held_sides : (o : Pairing) (D E : Cols) → sides_ok columns o (cols_of columns (columns_of columns D)) (cols_of columns (columns_of columns E)) ≡ sides_ok columns o D E
 held_sides Union D E = held_same D E

@@ -5,11 +5,11 @@ use Prim.Native.Nat.{ℕ, zero, suc, ◌+◌, ◌*◌, ◌^◌, ◌≤◌, ◌<�
 use native.Mathlib.Omega.{arith}
 use native.Mathlib.Nat.{pow-zero, pow-suc, pow-le-pow_right}
 use native.Mathlib.Numerals.{add-one}
-use Rattle.laws.specs.Lists.{if◌then◌else◌}
+use Rattle.laws.specs.Lists.{when◌then◌else◌}
 use Rattle.algebra.specs.Columns.{Cols}
 use Rattle.flat.specs.Flat.{bit_set}
 
-pub if_below : (b : Bool) (n : ℕ) → (if b then n else 0) ≤ n
+pub if_below : (b : Bool) (n : ℕ) → (when b then n else 0) ≤ n
 if_below true n = omega arith
 if_below false n = omega arith
 
@@ -24,7 +24,7 @@ module _ (D : Cols) where
   unfolding bit_set
   bits_none = refl
 
-  pub bits_more : (c : ℕ) → bit_set c D + (if D c then 2 ^ c else 0) ≡ bit_set (c + 1) D
+  pub bits_more : (c : ℕ) → bit_set c D + (when D c then 2 ^ c else 0) ≡ bit_set (c + 1) D
   unfolding bit_set
   bits_more c = ap (λ n. bit_set n D) (sym (add-one c))
 

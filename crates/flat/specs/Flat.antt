@@ -1,7 +1,7 @@
 -- The layout of flat slices: queries and databases of document 01 as entries below 2^32, and a refusal as one number.
 use Rattle.std.specs.Prelude.{Bool, true, false, ◌&&◌, ℕ, zero, suc, ◌+◌, ◌*◌, ◌/◌, ◌%◌, ◌^◌, min, eqb, leb, get_or, take, drop, length}
 use mathlib.Core.List.{List, [], ◌∷◌, ◌++◌, flat_map}
-use Rattle.laws.specs.Lists.{if◌then◌else◌, tabulate}
+use Rattle.laws.specs.Lists.{when◌then◌else◌, tabulate}
 use Rattle.algebra.specs.declared.Pairing.{Pairing}
 use Rattle.algebra.specs.declared.Pairing.TheVariants.{Union, Join, Except}
 use Rattle.algebra.specs.declared.Condition.{Condition}
@@ -83,13 +83,13 @@ flat_line (Last c) = record { code = 16; a = c; b = 0 }
 -- and back; any other code is a line off the form, and so refused with 1 and its node
 unfoldable pub node_of : FlatLine → Node
 node_of l =
-    if eqb l.code 1 then Table l.a else (if eqb l.code 2 then Var l.a else (
-    if eqb l.code 3 then Fact l.a l.b else (if eqb l.code 4 then Pair Union else (
-    if eqb l.code 5 then Pair Join else (if eqb l.code 6 then Pair Except else (
-    if eqb l.code filter_code then Filter (Eq l.a l.b) else (if eqb l.code (filter_code + 1) then Filter (Ne l.a l.b) else (
-    if eqb l.code (filter_code + 2) then Filter (Max l.a l.b) else (if eqb l.code (filter_code + 3) then Filter (Same l.a l.b) else (
-    if eqb l.code 11 then Copy l.a l.b else (if eqb l.code 12 then Drop l.a else (
-    if eqb l.code 13 then Fix l.a else (if eqb l.code 15 then Mu l.a else (if eqb l.code 16 then Last l.a else Table entry_limit))))))))))))))
+    when eqb l.code 1 then Table l.a else (when eqb l.code 2 then Var l.a else (
+    when eqb l.code 3 then Fact l.a l.b else (when eqb l.code 4 then Pair Union else (
+    when eqb l.code 5 then Pair Join else (when eqb l.code 6 then Pair Except else (
+    when eqb l.code filter_code then Filter (Eq l.a l.b) else (when eqb l.code (filter_code + 1) then Filter (Ne l.a l.b) else (
+    when eqb l.code (filter_code + 2) then Filter (Max l.a l.b) else (when eqb l.code (filter_code + 3) then Filter (Same l.a l.b) else (
+    when eqb l.code 11 then Copy l.a l.b else (when eqb l.code 12 then Drop l.a else (
+    when eqb l.code 13 then Fix l.a else (when eqb l.code 15 then Mu l.a else (when eqb l.code 16 then Last l.a else Table entry_limit))))))))))))))
 
 -- a query: its count, then three entries a line
 abbrev pub line_entries : ℕ
@@ -118,11 +118,11 @@ abbrev pub bit : ℕ → ℕ → Bool
 bit bits c = eqb (bits / 2 ^ c % 2) 1
 
 abbrev pub column_set : ℕ → ℕ → Columns
-column_set w bits = if eqb (bits / 2 ^ w) 0 then columns_of w (bit bits) else columns_of w no_cols
+column_set w bits = when eqb (bits / 2 ^ w) 0 then columns_of w (bit bits) else columns_of w no_cols
 
 unfoldable pub bit_set : ℕ → Cols → ℕ
 bit_set zero D = 0
-bit_set (suc c) D = bit_set c D + (if D c then 2 ^ c else 0)
+bit_set (suc c) D = bit_set c D + (when D c then 2 ^ c else 0)
 
 abbrev pub bits_of : Columns → ℕ
 bits_of s = bit_set columns (cols_of columns s)

@@ -1,7 +1,7 @@
 // From values to flat slices.
 ghost use Rattle.std.specs.Prelude.{◌≡◌, ◌<◌, ◌≤◌, ◌+◌, ◌*◌, min, [], ◌∷◌, length};
 ghost use Rattle.std.proofs.lemmas.List.Edits.{sets};
-ghost use Rattle.laws.specs.Lists.{if◌then◌else◌};
+ghost use Rattle.laws.specs.Lists.{when◌then◌else◌};
 ghost use Rattle.database.specs.Refusals.{number, place_of};
 ghost use Rattle.database.specs.Stored.{table_limit};
 ghost use Rattle.query.specs.Lines.{node_limit};
@@ -135,7 +135,7 @@ pub fn encode_query(query: Query, out: &mut [u32])
 }
 
 fn worth_if(has: bool, worth: u32) -> u32
-    ensures { result ≡ (if has then worth else 0) }
+    ensures { result ≡ (when has then worth else 0) }
 {
     if has { worth } else { 0 }
 }

@@ -8,7 +8,7 @@ use Prim.Native.Nat.{ℕ, zero, suc, ◌<◌}
 use native.Mathlib.Omega.{arith}
 use native.Mathlib.Nat.{le_of_suc-le-suc, not-suc-le-zero}
 use lib.ListN.{length, get_or}
-use Rattle.laws.specs.Lists.{if◌then◌else◌, every, any, member, tabulate}
+use Rattle.laws.specs.Lists.{when◌then◌else◌, every, any, member, tabulate}
 use Rattle.laws.proofs.Tests.{true_false, same?, and_true_left, and_true_right, and_true}
 use Rattle.laws.proofs.Options.{some_inj, none_some}
 
@@ -54,7 +54,7 @@ each_of_member P (a ∷ l) (h, hs) n e = elim (same? n a) [
 ]
 
 -- a value that is kept where a test passes
-pub kept : {A : Type 0} {a b : A} (t : Bool) → (if t then some a else none) ≡ some b → (t ≡ true) × (a ≡ b)
+pub kept : {A : Type 0} {a b : A} (t : Bool) → (when t then some a else none) ≡ some b → (t ≡ true) × (a ≡ b)
 kept true e = (refl, some_inj e)
 kept false e = none_some e
 

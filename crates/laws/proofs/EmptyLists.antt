@@ -7,7 +7,7 @@ use Prim.Native.Nat.{ℕ, zero, suc, ◌<◌}
 use native.Mathlib.Omega.{arith}
 use lib.Dec.{eqb}
 use lib.ListN.{length, get_or}
-use Rattle.laws.specs.Lists.{if◌then◌else◌, ◌==◌, null, any, member, sift}
+use Rattle.laws.specs.Lists.{when◌then◌else◌, ◌iff◌, null, any, member, sift}
 use Rattle.laws.proofs.Tests.{true_false, same?}
 use Rattle.laws.proofs.EachMember.{Each, each_map, each_append}
 
@@ -15,7 +15,7 @@ pub true_or_false : (b : Bool) → (b ≡ true) ⊎ (b ≡ false)
 true_or_false true = inl refl
 true_or_false false = inr refl
 
-pub agree_iff : (a b : Bool) → (a == b ≡ true) ↔ (a ≡ b)
+pub agree_iff : (a b : Bool) → (a iff b ≡ true) ↔ (a ≡ b)
 agree_iff true b = (sym, sym)
 agree_iff false true = ((λ e. e), λ e. e)
 agree_iff false false = ((λ _. refl), λ _. refl)
@@ -63,7 +63,7 @@ member_sift n p (a ∷ l) e = by_tests_lem (p a) refl e (member_sift n p l)
     found true e = refl
     found false e = e
 
-    by_tests_lem : (b : Bool) → p a ≡ b → member n (if b then a ∷ sift p l else sift p l) ≡ true
+    by_tests_lem : (b : Bool) → p a ≡ b → member n (when b then a ∷ sift p l else sift p l) ≡ true
         → (member n (sift p l) ≡ true → (member n l ≡ true) × (p n ≡ true)) → (member n (a ∷ l) ≡ true) × (p n ≡ true)
     by_tests_lem false i e rest = let (h, k) = rest e in (found (eqb n a) h, k)
     by_tests_lem true i e rest = elim (same? n a) [

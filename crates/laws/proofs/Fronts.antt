@@ -7,13 +7,13 @@ use native.Mathlib.Omega.{arith}
 use native.Mathlib.Numerals.{add-one}
 use lib.ListN.{length, drop, get_or, set, replicate, length-append, length-map, drop_of_length-le}
 use lib.Seq.{drop-cons, append_snoc, set_at}
-use Rattle.laws.specs.Lists.{if◌then◌else◌, null}
+use Rattle.laws.specs.Lists.{when◌then◌else◌, null}
 
 -- the next element, and what is left behind it
 pub drop_next : {A : Type 0} (l : List A) (i : ℕ) (d : A) → i < length l → drop i l ≡ get_or l i d ∷ drop (i + 1) l
 drop_next l i d h = drop-cons l i d h ∙ ap (λ n. get_or l i d ∷ drop n l) (sym (add-one i))
 
-pub if_either {ℓ} : {A : Type ℓ} (b : Bool) (a : A) → (if b then a else a) ≡ a
+pub if_either {ℓ} : {A : Type ℓ} (b : Bool) (a : A) → (when b then a else a) ≡ a
 if_either true a = refl
 if_either false a = refl
 

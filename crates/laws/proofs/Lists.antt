@@ -7,7 +7,7 @@ use Prim.Native.Nat.{ℕ, zero, suc, ◌+◌, ◌<◌}
 use native.Mathlib.Omega.{arith}
 use native.Mathlib.Nat.{not-suc-le-zero}
 use lib.Dec.{eqb}
-use Rattle.laws.specs.Lists.{if◌then◌else◌, null, any, member, sift, all}
+use Rattle.laws.specs.Lists.{when◌then◌else◌, null, any, member, sift, all}
 use Rattle.laws.proofs.Tests.{true_false, eqb_self, same?, and_true, and_true_left, and_true_right, or_true_left, or_true_right}
 
 -- what holds below n holds of each number below n
@@ -34,7 +34,7 @@ sift_append p [] m = refl
 sift_append p (a ∷ l) m = by_test (p a) (sift_append p l m)
   where
     by_test : (b : Bool) {r : List _} → r ≡ sift p l ++ sift p m
-        → (if b then a ∷ r else r) ≡ (if b then a ∷ sift p l else sift p l) ++ sift p m
+        → (when b then a ∷ r else r) ≡ (when b then a ∷ sift p l else sift p l) ++ sift p m
     by_test true e = ap (λ r. a ∷ r) e
     by_test false e = e
 
@@ -49,7 +49,7 @@ member_tail n a l e = or_true_right (eqb n a) (member n l) e
 -- how often a number stands in a list
 unfoldable pub count : ℕ → List ℕ → ℕ
 count n [] = 0
-count n (a ∷ l) = (if eqb n a then 1 else 0) + count n l
+count n (a ∷ l) = (when eqb n a then 1 else 0) + count n l
 
 pub count_append : (n : ℕ) (l m : List ℕ) → count n (l ++ m) ≡ count n l + count n m
 unfolding count
@@ -66,7 +66,7 @@ unfolding count any
 absent_count n [] e = refl
 absent_count n (a ∷ l) e = by_test (eqb n a) (absent_count n l) e
   where
-    by_test : (b : Bool) → (member n l ≡ false → count n l ≡ 0) → b || member n l ≡ false → (if b then 1 else 0) + count n l ≡ 0
+    by_test : (b : Bool) → (member n l ≡ false → count n l ≡ 0) → b || member n l ≡ false → (when b then 1 else 0) + count n l ≡ 0
     by_test true f e = true_false e
     by_test false f e = let z = f e in omega arith
 
@@ -75,6 +75,6 @@ unfolding count any
 count_absent n [] e = refl
 count_absent n (a ∷ l) e = by_test (eqb n a) (count_absent n l) e
   where
-    by_test : (b : Bool) → (count n l ≡ 0 → member n l ≡ false) → (if b then 1 else 0) + count n l ≡ 0 → b || member n l ≡ false
+    by_test : (b : Bool) → (count n l ≡ 0 → member n l ≡ false) → (when b then 1 else 0) + count n l ≡ 0 → b || member n l ≡ false
     by_test true f e = let z : ⊥ = omega arith in absurd z
     by_test false f e = f (omega arith)

@@ -9,7 +9,7 @@ use native.Mathlib.Nat.{not-suc-le-zero}
 use native.Mathlib.Decide.{dec_lt}
 use lib.ListN.{length, get_or, set, take, drop, replicate, length-append, length-map, length-replicate, get_or-replicate, get_or-append, get_or-map, get_or-eq_default}
 use lib.Seq.{set_at, get_or-append-add, take-suc, drop-cons, length-take-le, get_or-take}
-use Rattle.laws.specs.Lists.{if◌then◌else◌, every, any, sift, all}
+use Rattle.laws.specs.Lists.{when◌then◌else◌, every, any, sift, all}
 use Rattle.laws.proofs.Tests.{and_true, and_true_left, and_true_right, or_true_left, or_true_right}
 
 -- an array of n entries that has been filled from its start: the rest holds d
@@ -102,7 +102,7 @@ module _ {A : Type 0} (p : A → Bool) where
   every_sift q [] e = refl
   every_sift q (a ∷ l) e = by_test (q a) (every_sift q l (and_true_right (p a) (every p l) e))
     where
-      by_test : (b : Bool) → every p (sift q l) ≡ true → every p (if b then a ∷ sift q l else sift q l) ≡ true
+      by_test : (b : Bool) → every p (sift q l) ≡ true → every p (when b then a ∷ sift q l else sift q l) ≡ true
       by_test true f = rw (and_true_left (p a) (every p l) e) f
       by_test false f = f
 

@@ -10,7 +10,7 @@ use native.Mathlib.Nat.{not-suc-le-zero}
 use native.Mathlib.Decide.{dec_lt}
 use lib.ListN.{length, get_or, length-append, get_or-append}
 use lib.Seq.{get_or_at}
-use Rattle.laws.specs.Lists.{if◌then◌else◌, all, lowest, tabulate}
+use Rattle.laws.specs.Lists.{when◌then◌else◌, all, lowest, tabulate}
 use Rattle.laws.proofs.Tests.{true_false, same?}
 
 pub length_tabulate : {A : Type 0} (f : ℕ → A) (n : ℕ) → length (tabulate f n) ≡ n
@@ -33,7 +33,7 @@ Lowest p n none = (c : ℕ) → c < n → p c ≡ true
 Lowest p n (some i) = (i < n) × (p i ≡ false) × ((c : ℕ) → c < i → p c ≡ true)
 
 lowest_next : (p : ℕ → Bool) (n : ℕ) (o : Option ℕ) (b : Bool) → Lowest p n o → p n ≡ b
-    → Lowest p (suc n) (elim o [ none ↦ if b then none else some n | some i ↦ some i ])
+    → Lowest p (suc n) (elim o [ none ↦ when b then none else some n | some i ↦ some i ])
 lowest_next p n none true f e = λ c h. elim (same? c n) [ inl s ↦ ap p s.0 ∙ e | inr s ↦ f c (let u = s.0 in omega arith) ]
 lowest_next p n none false f e = (omega arith, e, f)
 lowest_next p n (some i) b (h, e, f) _ = (omega arith, e, f)

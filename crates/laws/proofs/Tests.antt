@@ -5,7 +5,7 @@ use mathlib.Core.Logic.{◌⊎◌, inl, inr, ◌≢◌}
 use Prim.Native.Nat.{ℕ}
 use lib.Dec.{T, eqb}
 use borrow.Author.Tests.{eqb-true, eqb-false, eq-eqb}
-use Rattle.laws.specs.Lists.{if◌then◌else◌, ◌==◌}
+use Rattle.laws.specs.Lists.{when◌then◌else◌, ◌iff◌}
 
 pub true_false {ℓ} : {A : Type ℓ} → true ≡ false → A
 true_false e = absurd (subst T e tt)
@@ -74,20 +74,20 @@ pub not_not : (a : Bool) → not (not a) ≡ a
 not_not true = refl
 not_not false = refl
 
-pub if_same {ℓ} : {A : Type ℓ} (b : Bool) (x : A) → (if b then x else x) ≡ x
+pub if_same {ℓ} : {A : Type ℓ} (b : Bool) (x : A) → (when b then x else x) ≡ x
 if_same true x = refl
 if_same false x = refl
 
-pub if_apply {ℓ κ} : {A : Type ℓ} {B : Type κ} (f : A → B) (b : Bool) (x y : A) → f (if b then x else y) ≡ if b then f x else f y
+pub if_apply {ℓ κ} : {A : Type ℓ} {B : Type κ} (f : A → B) (b : Bool) (x y : A) → f (when b then x else y) ≡ when b then f x else f y
 if_apply f true x y = refl
 if_apply f false x y = refl
 
 -- a test agrees with true where it passes, and with false where it fails
-pub agrees_true : (b : Bool) → b ≡ b == true
+pub agrees_true : (b : Bool) → b ≡ b iff true
 agrees_true true = refl
 agrees_true false = refl
 
-pub agrees_false : (b : Bool) → not b ≡ b == false
+pub agrees_false : (b : Bool) → not b ≡ b iff false
 agrees_false true = refl
 agrees_false false = refl
 

@@ -2,16 +2,16 @@
 use Rattle.std.specs.Prelude.{Bool, true, false, not, ◌&&◌, ◌||◌, List, [], ◌∷◌, ◌++◌, ℕ, zero, suc, eqb}
 use Rattle.std.proofs.Math.Option.{Option, some, none}
 
-infix 10 if◌then◌else◌
-infixl 60 ◌==◌
-abbrev pub if◌then◌else◌ {ℓ} : {A : Type ℓ} → Bool → A → A → A
-if true then a else b = a
-if false then a else b = b
+infix 10 when◌then◌else◌
+infixl 60 ◌iff◌
+abbrev pub when◌then◌else◌ {ℓ} : {A : Type ℓ} → Bool → A → A → A
+when true then a else b = a
+when false then a else b = b
 
 -- both tests agree
-abbrev pub ◌==◌ : Bool → Bool → Bool
-true == b = b
-false == b = not b
+abbrev pub ◌iff◌ : Bool → Bool → Bool
+true iff b = b
+false iff b = not b
 
 abbrev pub null : {A : Type 0} → List A → Bool
 null [] = true
@@ -32,7 +32,7 @@ member n l = any (eqb n) l
 -- the members that pass, in their order
 unfoldable pub sift : {A : Type 0} → (A → Bool) → List A → List A
 sift p [] = []
-sift p (a ∷ l) = if p a then a ∷ sift p l else sift p l
+sift p (a ∷ l) = when p a then a ∷ sift p l else sift p l
 
 -- every number below n passes
 unfoldable pub all : (ℕ → Bool) → ℕ → Bool
@@ -42,7 +42,7 @@ all p (suc n) = all p n && p n
 -- the lowest number below n that fails
 unfoldable pub lowest : (ℕ → Bool) → ℕ → Option ℕ
 lowest p zero = none
-lowest p (suc n) = elim (lowest p n) [ none ↦ if p n then none else some n | some i ↦ some i ]
+lowest p (suc n) = elim (lowest p n) [ none ↦ when p n then none else some n | some i ↦ some i ]
 
 -- f 0, …, f (n - 1)
 unfoldable pub tabulate : {A : Type 0} → (ℕ → A) → ℕ → List A

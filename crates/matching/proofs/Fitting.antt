@@ -4,7 +4,7 @@ use mathlib.Core.Bool.{Bool, true, false}
 use Prim.Native.Nat.{ℕ, ◌-◌, ◌<◌}
 use native.Mathlib.Omega.{arith}
 use lib.Dec.{eqb}
-use Rattle.laws.specs.Lists.{if◌then◌else◌}
+use Rattle.laws.specs.Lists.{when◌then◌else◌}
 use Rattle.algebra.specs.declared.Pairing.TheVariants.{Union, Join, Except}
 use Rattle.query.specs.declared.Node.{Node}
 use Rattle.query.specs.declared.Node.TheVariants.{Table, Var, Fact, Pair, Filter, Copy, Drop, Last, Fix, Mu}
@@ -17,7 +17,7 @@ use Rattle.matching.specs.declared.Found.TheVariants.{Nothing, FilterFix, FixJoi
 use Rattle.matching.specs.Found.{right_of, left_of, over_fix, join_found, line_found, found_at, Within, Fits, Placed}
 
 module _ (q : Query) (facts : Facts) (p : Placed q facts) (k i : ℕ) where
-  either : (b : Bool) (m n : Found) → (b ≡ true → Fits facts i m) → Fits facts i n → Fits facts i (if b then m else n)
+  either : (b : Bool) (m n : Found) → (b ≡ true → Fits facts i m) → Fits facts i n → Fits facts i (when b then m else n)
   either true m n f g = f refl
   either false m n f g = g
 

@@ -8,7 +8,7 @@ use native.Mathlib.Omega.{arith}
 use lib.Dec.{ltb}
 use borrow.Author.Tests.{ltb-true}
 use lib.ListN.{length, length-append}
-use Rattle.laws.specs.Lists.{◌==◌, every, all}
+use Rattle.laws.specs.Lists.{◌iff◌, every, all}
 use Rattle.laws.proofs.Lists.{count, count_append, count_head, count_absent}
 use Rattle.laws.proofs.Tests.{and_true_left, not_not}
 use Rattle.laws.proofs.Passes.{every_split, every_at}
@@ -52,13 +52,13 @@ all_same p r zero h = refl
 all_same p r (suc n) h = ap₂ ◌&&◌ (all_same p r n (λ c k. h c (omega arith))) (h n (omega arith))
 
 -- a column that both have, and one that the operand has and the fix lacks
-shared_same : (d e m : Bool) → not (e && (d == true)) || not (not m) ≡ not (d && e) || m
+shared_same : (d e m : Bool) → not (e && (d iff true)) || not (not m) ≡ not (d && e) || m
 shared_same true true m = not_not m
 shared_same true false m = refl
 shared_same false true m = refl
 shared_same false false m = refl
 
-others_same : (d e m : Bool) → not (e && (d == false)) || not m ≡ not (e && not d) || not m
+others_same : (d e m : Bool) → not (e && (d iff false)) || not m ≡ not (e && not d) || not m
 others_same true e m = refl
 others_same false e m = refl
 
@@ -176,13 +176,13 @@ module _ (d : Database) (limit : ℕ) (q : Query) (t : Term) (checked : Checked 
     pub shared_is : {m : ℕ} {a : Term} → At C m a → (D : Cols) → ((c : ℕ) → cols G C a c ≡ D c) → shared_kept q facts f (last m a) ≡ shared_stable G C x D
     unfolding shared_stable
     shared_is {m} {a} o D same = all_same _ _ columns λ c k.
-        ap₂ (λ (u v : Bool). not (cols_at q facts (last m a) c && (u == true)) || not v) (fix_cols c k) (unstable_is c k)
-        ∙ ap (λ (e : Bool). not (e && (cols G C x.seed c == true)) || not (not (kept c))) (here_cols o c k ∙ same c)
+        ap₂ (λ (u v : Bool). not (cols_at q facts (last m a) c && (u iff true)) || not v) (fix_cols c k) (unstable_is c k)
+        ∙ ap (λ (e : Bool). not (e && (cols G C x.seed c iff true)) || not (not (kept c))) (here_cols o c k ∙ same c)
         ∙ shared_same (cols G C x.seed c) (D c) (kept c)
 
     pub others_is : {m : ℕ} {a : Term} → At C m a → (D : Cols) → ((c : ℕ) → cols G C a c ≡ D c) → others_fresh q facts f (last m a) ≡ others_unused G C x D
     unfolding others_unused
     others_is {m} {a} o D same = all_same _ _ columns λ c k.
-        ap₂ (λ (u v : Bool). not (cols_at q facts (last m a) c && (u == false)) || not v) (fix_cols c k) (used_is c k)
-        ∙ ap (λ (e : Bool). not (e && (cols G C x.seed c == false)) || not (used G x.step c)) (here_cols o c k ∙ same c)
+        ap₂ (λ (u v : Bool). not (cols_at q facts (last m a) c && (u iff false)) || not v) (fix_cols c k) (used_is c k)
+        ∙ ap (λ (e : Bool). not (e && (cols G C x.seed c iff false)) || not (used G x.step c)) (here_cols o c k ∙ same c)
         ∙ others_same (cols G C x.seed c) (D c) (used G x.step c)

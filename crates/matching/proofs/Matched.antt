@@ -6,7 +6,7 @@ use Prim.Native.Nat.{ℕ, ◌+◌, ◌-◌, ◌≤◌}
 use native.Mathlib.Omega.{arith}
 use lib.Dec.{eqb}
 use lib.ListN.{length}
-use Rattle.laws.specs.Lists.{if◌then◌else◌}
+use Rattle.laws.specs.Lists.{when◌then◌else◌}
 use Rattle.laws.proofs.Options.{if_map}
 use Rattle.algebra.specs.declared.Pairing.{Pairing}
 use Rattle.algebra.specs.declared.Pairing.TheVariants.{Union, Join, Except}
@@ -72,7 +72,7 @@ both_found q s (copy c x y) b e f = rw e
 both_found q s (drop c x) b e f = rw e
 both_found q s (latest c x) b e f = rw e
 both_found q s (fix v x y) b e f =
-    ap (λ (z : Node). if has_step z then over_fix q (last (s + size (fix v x y)) b) (FixFix (last s (fix v x y)) (last (s + size (fix v x y)) b)) else Nothing) e
+    ap (λ (z : Node). when has_step z then over_fix q (last (s + size (fix v x y)) b) (FixFix (last s (fix v x y)) (last (s + size (fix v x y)) b)) else Nothing) e
     ∙ over_found q s (s + size (fix v x y)) b f _ (fix_fix (record { var = v; seed = x; step = y })) (λ z i. ap (λ (w : Term). FixFix (last s (fix v x y)) (last (s + size (fix v x y)) w)) (sym i))
 both_found q s (mu v x) b e f = rw e
 
@@ -91,15 +91,15 @@ module _ (d : Database) (limit : ℕ) (q : Query) (t : Term) (checked : Checked 
 
   abbrev join : ℕ → ℕ → Found
   join x y =
-      if eqb k 2 then over_fix q x (FixJoin x y)
+      when eqb k 2 then over_fix q x (FixJoin x y)
       else
-      if eqb k 3 then over_fix q y (JoinFix x y)
+      when eqb k 3 then over_fix q y (JoinFix x y)
       else
-      if eqb k 6 then over_fix q x (over_fix q y (FixFix x y))
+      when eqb k 6 then over_fix q x (over_fix q y (FixFix x y))
       else Nothing
 
   abbrev except : ℕ → ℕ → Found
-  except x y = if eqb k 4 then over_fix q x (FixExcept x y) else Nothing
+  except x y = when eqb k 4 then over_fix q x (FixExcept x y) else Nothing
 
   -- the operands of a pair by their places
   module _ {C : Cols} {s : ℕ} {o : Pairing} {a b : Term} (h : At C s (pair o a b)) where
@@ -140,14 +140,14 @@ module _ (d : Database) (limit : ℕ) (q : Query) (t : Term) (checked : Checked 
   found_at_lem {s = s} (filter f a) h =
       let e : right_of (last s (filter f a)) ≡ last s a = omega arith in
       ap (line_found q facts k (last s (filter f a))) (line h)
-      ∙ ap (λ (j : ℕ). if eqb k 1 then over_fix q j (FilterFix f j) else Nothing) e
+      ∙ ap (λ (j : ℕ). when eqb k 1 then over_fix q j (FilterFix f j) else Nothing) e
       ∙ if_map (found s) (eqb k 1) (over (filter_fix f) (loop_of a)) none
       (over_found q s s a (line (filter_down d q t checked.written h)) _ (filter_fix f) (λ x e. ap (λ (y : Term). FilterFix f (last s y)) (sym e))) refl
   found_at_lem {s = s} (copy c x a) h = ap (line_found q facts k (last s (copy c x a))) (line h)
   found_at_lem {s = s} (drop c a) h =
       let e : right_of (last s (drop c a)) ≡ last s a = omega arith in
       ap (line_found q facts k (last s (drop c a))) (line h)
-      ∙ ap (λ (j : ℕ). if eqb k 5 then over_fix q j (DropFix c j) else Nothing) e
+      ∙ ap (λ (j : ℕ). when eqb k 5 then over_fix q j (DropFix c j) else Nothing) e
       ∙ if_map (found s) (eqb k 5) (over (drop_fix c) (loop_of a)) none
       (over_found q s s a (line (drop_down d q t checked.written h)) _ (drop_fix c) (λ x e. ap (λ (y : Term). DropFix c (last s y)) (sym e))) refl
   found_at_lem {s = s} (latest c a) h = ap (line_found q facts k (last s (latest c a))) (line h)

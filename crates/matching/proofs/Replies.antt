@@ -5,7 +5,7 @@ use Prim.Native.Nat.{ℕ, ◌-◌, ◌≤◌, ◌<◌}
 use native.Mathlib.Omega.{arith}
 use lib.Dec.{leb}
 use borrow.Author.Tests.{eq-eqb, ne_eqb, le-leb, lt-leb}
-use Rattle.laws.specs.Lists.{if◌then◌else◌}
+use Rattle.laws.specs.Lists.{when◌then◌else◌}
 use Rattle.database.specs.declared.Refusal.TheVariants.{NoMatch, Unstable, Used, OpenOperand}
 use Rattle.database.specs.declared.Refusal.{Refusal}
 use Rattle.database.specs.declared.Verdict.{Verdict}
@@ -50,13 +50,13 @@ judged_accepted (accepted _) a e = refl
 -- the reply at node n: none before the first, none past the last
 module _ (q : Query) (reply : ℕ → Reply Query) (n : ℕ) where
   abbrev within : Bool → Reply Query
-  within b = if b then reply (n - 1) else refused NoMatch
+  within b = when b then reply (n - 1) else refused NoMatch
 
   pub no_node : n ≡ 0 → refused NoMatch ≡ at_node q reply n
-  no_node e = ap (λ (b : Bool). if b then refused NoMatch else within (leb n q.count)) (sym (eq-eqb n 0 e))
+  no_node e = ap (λ (b : Bool). when b then refused NoMatch else within (leb n q.count)) (sym (eq-eqb n 0 e))
 
   some_node : (n ≡ 0 → ⊥) → within (leb n q.count) ≡ at_node q reply n
-  some_node h = ap (λ (b : Bool). if b then refused NoMatch else within (leb n q.count)) (sym (ne_eqb n 0 h))
+  some_node h = ap (λ (b : Bool). when b then refused NoMatch else within (leb n q.count)) (sym (ne_eqb n 0 h))
 
   pub past_node_lem : (n ≡ 0 → ⊥) → q.count < n → refused NoMatch ≡ at_node q reply n
   past_node_lem h i = ap within (sym (lt-leb n q.count i)) ∙ some_node h

@@ -1,7 +1,7 @@
 -- What a kind finds at a node of a checked query, what 13 to 15 ask of it, and what is written, all read off the lines and what the check tells.
 -- That this is what document 01's rules reply is a theorem (`node_reply_lem`).
 use Rattle.std.specs.Prelude.{◌≡◌, Bool, true, false, not, ◌&&◌, ◌||◌, ℕ, ◌+◌, ◌-◌, ◌≤◌, ◌<◌, eqb, leb}
-use Rattle.laws.specs.Lists.{if◌then◌else◌, ◌==◌, every, all}
+use Rattle.laws.specs.Lists.{when◌then◌else◌, ◌iff◌, every, all}
 use Rattle.algebra.specs.declared.Pairing.{Pairing}
 use Rattle.algebra.specs.declared.Pairing.TheVariants.{Union, Join, Except}
 use Rattle.algebra.specs.declared.Condition.{Condition}
@@ -33,28 +33,28 @@ left_of facts i = start_at facts (i - 1) - 1
 module _ (q : Query) where
   -- what is found over an operand, if that is a fix
   abbrev pub over_fix : ℕ → Found → Found
-  over_fix x m = if has_step (line_at q x) then m else Nothing
+  over_fix x m = when has_step (line_at q x) then m else Nothing
 
   -- k: the kind; i: the index of the node
   module _ (k i : ℕ) where
     abbrev pub filter_found : Condition → Found
-    filter_found f = if eqb k 1 then over_fix (right_of i) (FilterFix f (right_of i)) else Nothing
+    filter_found f = when eqb k 1 then over_fix (right_of i) (FilterFix f (right_of i)) else Nothing
 
     abbrev pub drop_found : ℕ → Found
-    drop_found c = if eqb k 5 then over_fix (right_of i) (DropFix c (right_of i)) else Nothing
+    drop_found c = when eqb k 5 then over_fix (right_of i) (DropFix c (right_of i)) else Nothing
 
   module _ (facts : Facts) (k i : ℕ) where
     abbrev pub join_found : Found
     join_found =
-        if eqb k 2 then over_fix (left_of facts i) (FixJoin (left_of facts i) (right_of i))
+        when eqb k 2 then over_fix (left_of facts i) (FixJoin (left_of facts i) (right_of i))
         else
-        if eqb k 3 then over_fix (right_of i) (JoinFix (left_of facts i) (right_of i))
+        when eqb k 3 then over_fix (right_of i) (JoinFix (left_of facts i) (right_of i))
         else
-        if eqb k 6 then over_fix (left_of facts i) (over_fix (right_of i) (FixFix (left_of facts i) (right_of i)))
+        when eqb k 6 then over_fix (left_of facts i) (over_fix (right_of i) (FixFix (left_of facts i) (right_of i)))
         else Nothing
 
     abbrev pub except_found : Found
-    except_found = if eqb k 4 then over_fix (left_of facts i) (FixExcept (left_of facts i) (right_of i)) else Nothing
+    except_found = when eqb k 4 then over_fix (left_of facts i) (FixExcept (left_of facts i) (right_of i)) else Nothing
 
     abbrev pub pair_found : Pairing → Found
     pair_found Union = Nothing
@@ -105,7 +105,7 @@ pub record Placed (q : Query) (facts : Facts) : Type 0 where
 
 -- a column of an operand, E, that the fix, D, has too (shared) or lacks (not shared) is not marked
 abbrev pub apart_at : Bool → Cols → Cols → Cols → ℕ → Bool
-apart_at shared D E marked c = not (E c && (D c == shared)) || not (marked c)
+apart_at shared D E marked c = not (E c && (D c iff shared)) || not (marked c)
 
 module _ (q : Query) (facts : Facts) where
   -- the columns of the node of index x; of the step of the fix of index x, those that are not stable and those that are used
@@ -204,4 +204,4 @@ reply_to q facts i m = judged_at q facts m >>= λ _. accepted (written_at q fact
 
 -- "Nodes count from 1.": what is replied at node n, by the index; 12 where there is no such node
 abbrev pub at_node : Query → (ℕ → Reply Query) → ℕ → Reply Query
-at_node q reply n = if eqb n 0 then refused NoMatch else if leb n q.count then reply (n - 1) else refused NoMatch
+at_node q reply n = when eqb n 0 then refused NoMatch else when leb n q.count then reply (n - 1) else refused NoMatch

@@ -6,7 +6,7 @@ use mathlib.Core.List.{List, [], ◌∷◌, ◌++◌}
 use Prim.Native.String.{String}
 use Prim.Native.Nat.{ℕ}
 use native.Mathlib.Omega.{arith}
-use Rattle.laws.specs.Lists.{if◌then◌else◌}
+use Rattle.laws.specs.Lists.{when◌then◌else◌}
 use Rattle.laws.specs.Options.{mapped}
 use Rattle.laws.proofs.Options.{none_some}
 use Rattle.query.specs.declared.Node.{Node}
@@ -68,10 +68,10 @@ module _ {A : Type 0} (key : String) (f : ℕ → ℕ → A) (forms : List (Form
 
 module _ {A : Type 0} (key : String) (a : A) (forms : List (Form A)) (l : List ℕ) where
   pub word_taken : is_word (bytes key) l ≡ true → by_forms (word key a ∷ forms) l ≡ some a
-  word_taken e = taken (word key a) forms l a (word_form_lem key a l ∙ ap (λ t. if t then some a else none) e)
+  word_taken e = taken (word key a) forms l a (word_form_lem key a l ∙ ap (λ t. when t then some a else none) e)
 
   pub word_passed : is_word (bytes key) l ≡ false → by_forms (word key a ∷ forms) l ≡ by_forms forms l
-  word_passed e = passed (word key a) forms l (word_form_lem key a l ∙ ap (λ t. if t then some a else none) e)
+  word_passed e = passed (word key a) forms l (word_form_lem key a l ∙ ap (λ t. when t then some a else none) e)
 
 -- a table of forms in parts
 pub part_taken : {A : Type 0} (fs gs : List (Form A)) (l : List ℕ) (a : A) → by_forms fs l ≡ some a → by_forms (fs ++ gs) l ≡ some a

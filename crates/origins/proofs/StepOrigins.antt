@@ -11,7 +11,7 @@ use lib.Dec.{eqb, ltb}
 use lib.ListN.{length, set, replicate, length-set, length-replicate}
 use lib.Seq.{get_or-set_same, get_or-set_other}
 use borrow.Author.Tests.{ltb-true, ltb-false, lt-ltb, ne_eqb}
-use Rattle.laws.specs.Lists.{if◌then◌else◌}
+use Rattle.laws.specs.Lists.{when◌then◌else◌}
 use Rattle.laws.proofs.Tests.{eqb_self, same?, and_true_left}
 use Rattle.laws.proofs.Tabulated.{get_d_tabulate}
 use Rattle.algebra.specs.declared.Pairing.{Pairing}
@@ -36,15 +36,15 @@ use Rattle.rewrite.proofs.OnPath.{stands_told}
 
 -- numbers and what they stand for
 
-own_origin : (b : Bool) (e : ℕ) → e < columns → origin_of (if b then e else columns) ≡ if b then some e else none
+own_origin : (b : Bool) (e : ℕ) → e < columns → origin_of (when b then e else columns) ≡ when b then some e else none
 own_origin true e h = rw (lt-ltb e columns h)
 own_origin false e h = refl
 
-agreed_self : (i : Bool) (m : ℕ) → (if i then some m else none) ≡ agreed (if i then some m else none) (if i then some m else none)
+agreed_self : (i : Bool) (m : ℕ) → (when i then some m else none) ≡ agreed (when i then some m else none) (when i then some m else none)
 agreed_self true m = rw (eqb_self m)
 agreed_self false m = refl
 
-agreed_other : (i j : Bool) (m n : ℕ) → eqb m n ≡ false → none ≡ agreed (if i then some m else none) (if j then some n else none)
+agreed_other : (i j : Bool) (m n : ℕ) → eqb m n ≡ false → none ≡ agreed (when i then some m else none) (when j then some n else none)
 agreed_other true true m n e = rw e
 agreed_other true false m n e = refl
 agreed_other false j m n e = refl
@@ -57,7 +57,7 @@ pair_origin_lem Union m n = elim (same? m n) [
 ]
 pair_origin_lem Join m n = by_number (ltb m columns) refl
   where
-    by_number : (b : Bool) → ltb m columns ≡ b → origin_of (if b then m else n) ≡ or_else (if b then some m else none) (origin_of n)
+    by_number : (b : Bool) → ltb m columns ≡ b → origin_of (when b then m else n) ≡ or_else (when b then some m else none) (origin_of n)
     by_number true e = rw e
     by_number false e = refl
 pair_origin_lem Except m n = refl
@@ -66,7 +66,7 @@ pair_origin_lem Except m n = refl
 own_number_lem : (n c : ℕ) → c < columns → has_origin (origin_of n) c ≡ eqb n c
 own_number_lem n c h = by_test (ltb n columns) refl
   where
-    by_test : (b : Bool) → ltb n columns ≡ b → has_origin (if b then some n else none) c ≡ eqb n c
+    by_test : (b : Bool) → ltb n columns ≡ b → has_origin (when b then some n else none) c ≡ eqb n c
     by_test true e = refl
     by_test false e = let k = ltb-false n columns e in sym (ne_eqb n c (λ i. omega arith))
 
@@ -165,7 +165,7 @@ module _ (G : Schema) (q : Query) (facts : Facts) (formed : (j : ℕ) → j < q.
   unfolding Stands size origin
   shows (table t) C n held s fits room e h = ap origin_of (node_number n 0 held s refl (omega arith) e h)
   shows (var v) C n held s fits room e h =
-      ap origin_of (node_number n 0 held s refl (omega arith) e h ∙ ap (λ (i : Bool). if i then e else columns) (own_columns_lem n v s e h)) ∙ own_origin (C e) e h
+      ap origin_of (node_number n 0 held s refl (omega arith) e h ∙ ap (λ (i : Bool). when i then e else columns) (own_columns_lem n v s e h)) ∙ own_origin (C e) e h
   shows (fact c x) C n held s fits room e h = ap origin_of (node_number n 0 held s refl (omega arith) e h)
   shows (pair o a b) C n held (s, l, r) fits room e h =
       ap origin_of (node_number n (size a + size b) held s refl (omega arith) e h

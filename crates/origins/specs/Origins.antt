@@ -1,7 +1,7 @@
 -- The origins of a step's columns as its lines and the check's facts show them, node by node.
 use Rattle.std.specs.Prelude.{not, List, [], ℕ, zero, suc, ◌+◌, ◌-◌, eqb, ltb, get_or, set, replicate}
 use Rattle.std.proofs.Math.Option.{Option, some, none}
-use Rattle.laws.specs.Lists.{if◌then◌else◌, tabulate}
+use Rattle.laws.specs.Lists.{when◌then◌else◌, tabulate}
 use Rattle.algebra.specs.declared.Pairing.{Pairing}
 use Rattle.algebra.specs.declared.Pairing.TheVariants.{Union, Join, Except}
 use Rattle.algebra.specs.Columns.{Cols}
@@ -17,27 +17,27 @@ use Rattle.rewrite.specs.Places.{line_at, start_at, columns_at}
 
 -- the number held for a column: its origin, or the number of columns where it has none
 abbrev pub number_at : NodeOrigins → ℕ → ℕ
-number_at held c = if ltb c columns then get_or held.from c 0 else columns
+number_at held c = when ltb c columns then get_or held.from c 0 else columns
 
 -- the origin that a number stands for
 abbrev pub origin_of : ℕ → Option ℕ
-origin_of n = if ltb n columns then some n else none
+origin_of n = when ltb n columns then some n else none
 
 -- of a pair's column, from the numbers of its sides
 abbrev pub pair_number : Pairing → ℕ → ℕ → ℕ
-pair_number Union m n = if eqb m n then m else columns
-pair_number Join m n = if ltb m columns then m else n
+pair_number Union m n = when eqb m n then m else columns
+pair_number Join m n = when ltb m columns then m else n
 pair_number Except m n = m
 
 -- of a column of a variable with the columns own, of a copy and of a drop over an operand with these numbers
 abbrev pub own_number : Cols → ℕ → ℕ
-own_number own c = if own c then c else columns
+own_number own c = when own c then c else columns
 
 abbrev pub copied_number : (ℕ → ℕ) → ℕ → ℕ → ℕ → ℕ
-copied_number last a b c = if eqb c b then last a else last c
+copied_number last a b c = when eqb c b then last a else last c
 
 abbrev pub dropped_number : (ℕ → ℕ) → ℕ → ℕ → ℕ
-dropped_number last a c = if eqb c a then columns else last c
+dropped_number last a c = when eqb c a then columns else last c
 
 -- of a line's column; own: the line's columns; last, first: the numbers of its operands
 abbrev pub origin_number : Node → Cols → (ℕ → ℕ) → (ℕ → ℕ) → ℕ → ℕ

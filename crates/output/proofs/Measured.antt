@@ -11,7 +11,7 @@ use borrow.Author.Tests.{le-leb, lt-leb}
 use lib.Dec.{leb}
 use lib.ListN.{length, drop, set, length-set}
 use lib.Seq.{sets, sets-eq}
-use Rattle.laws.specs.Lists.{if◌then◌else◌}
+use Rattle.laws.specs.Lists.{when◌then◌else◌}
 use Rattle.output.specs.declared.Written.{Written}
 use Rattle.output.specs.declared.Written.TheVariants.{Bytes, Short}
 use Rattle.output.specs.Replies.{write_reply, slice_after}
@@ -39,7 +39,7 @@ unfolding put
 put_kept [] o = refl
 put_kept (b ∷ text) o = put_kept text (put_byte false b o) ∙ by_test (leb o.at (length o.slice))
   where
-    by_test : (t : Bool) → (if t then output (o.at + 1) o.slice else o).slice ≡ o.slice
+    by_test : (t : Bool) → (when t then output (o.at + 1) o.slice else o).slice ≡ o.slice
     by_test true = refl
     by_test false = refl
 

@@ -8,7 +8,7 @@ use borrow.Author.Tests.{le-leb, lt-leb}
 use lib.Dec.{leb}
 use lib.ListN.{length, set, length-set}
 use lib.Seq.{set_out}
-use Rattle.laws.specs.Lists.{if◌then◌else◌}
+use Rattle.laws.specs.Lists.{when◌then◌else◌}
 use Rattle.output.specs.Output.{Output, output, put_byte, put, Puts}
 
 put_append : (store : Bool) (s t : List ℕ) (o : Output) → put store (s ++ t) o ≡ put store t (put store s o)
@@ -30,7 +30,7 @@ unfolding put
 put_length store [] o = refl
 put_length store (b ∷ text) o = put_length store text (put_byte store b o) ∙ by_tests_lem (leb o.at (length o.slice)) store
   where
-    by_tests_lem : (t s : Bool) → length (if t then output (o.at + 1) (if s then set o.slice o.at b else o.slice) else o).slice ≡ length o.slice
+    by_tests_lem : (t s : Bool) → length (when t then output (o.at + 1) (when s then set o.slice o.at b else o.slice) else o).slice ≡ length o.slice
     by_tests_lem true true = length-set o.slice o.at b
     by_tests_lem true false = refl
     by_tests_lem false s = refl

@@ -1,7 +1,7 @@
 -- What a kind from 7 to 11 finds at a node of a checked query, what 2 and 22 ask of it, and what is written, all read off the lines and what the check
 -- tells. That this is document 02's step is a theorem (`pass_exact`).
 use Rattle.std.specs.Prelude.{Bool, true, false, ℕ, ◌+◌, eqb, ltb}
-use Rattle.laws.specs.Lists.{if◌then◌else◌, every}
+use Rattle.laws.specs.Lists.{when◌then◌else◌, every}
 use Rattle.algebra.specs.declared.Pairing.{Pairing}
 use Rattle.algebra.specs.declared.Pairing.TheVariants.{Union, Join, Except}
 use Rattle.algebra.specs.declared.Condition.{Condition}
@@ -21,9 +21,9 @@ use Rattle.passing.specs.declared.Passed.TheVariants.{Nothing, PastUnion, PastLe
 -- k: the kind; f: a filter
 module _ (k : ℕ) (f : Condition) where
   abbrev pub pair_passed : Pairing → Passed
-  pair_passed Union = if eqb k 7 then PastUnion f else Nothing
-  pair_passed Join = if eqb k 8 then PastLeft f else if eqb k 9 then PastRight f else Nothing
-  pair_passed Except = if eqb k 10 then PastExcept else Nothing
+  pair_passed Union = when eqb k 7 then PastUnion f else Nothing
+  pair_passed Join = when eqb k 8 then PastLeft f else when eqb k 9 then PastRight f else Nothing
+  pair_passed Except = when eqb k 10 then PastExcept else Nothing
 
   -- by the line that the filter takes
   abbrev pub under_passed : Node → Passed
@@ -31,7 +31,7 @@ module _ (k : ℕ) (f : Condition) where
   under_passed (Var v) = Nothing
   under_passed (Fact c x) = Nothing
   under_passed (Pair o) = pair_passed o
-  under_passed (Filter g) = if eqb k 11 then PastFilter else Nothing
+  under_passed (Filter g) = when eqb k 11 then PastFilter else Nothing
   under_passed (Copy a b) = Nothing
   under_passed (Drop a) = Nothing
   under_passed (Last a) = Nothing  -- "`last` is no filter in these rules."

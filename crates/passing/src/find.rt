@@ -1,6 +1,6 @@
 // What a kind finds at a node of a checked query, "kind or node doesn't match a rule" (12), and where the sides of a pair stand.
 ghost use Rattle.std.specs.Prelude.{◌≡◌, ◌<◌, ◌≤◌, eqb};
-ghost use Rattle.laws.specs.Lists.{if◌then◌else◌};
+ghost use Rattle.laws.specs.Lists.{when◌then◌else◌};
 ghost use Rattle.query.specs.Lines.{node_limit};
 ghost use Rattle.passing.specs.Passing.{right_end, right_start, left_end, pair_passed, under_passed, passed_at};
 
@@ -33,7 +33,7 @@ pub fn left_end(facts: Facts, i: usize) -> usize
 
 // What is found, if the kind is its own.
 fn of_kind(kind: u32, own: u32, found: Passed) -> Passed
-    ensures { result ≡ (if eqb kind own then found else Passed.Nothing) }
+    ensures { result ≡ (when eqb kind own then found else Passed.Nothing) }
 {
     if kind == own { found } else { Passed::Nothing }
 }

@@ -8,7 +8,7 @@ use native.Mathlib.Omega.{arith}
 use lib.Dec.{eqb, leb, ltb}
 use lib.ListN.{length, drop, get_or, drop_of_length-le}
 use borrow.Author.Tests.{le-leb}
-use Rattle.laws.specs.Lists.{if◌then◌else◌}
+use Rattle.laws.specs.Lists.{when◌then◌else◌}
 use Rattle.laws.specs.Options.{◌then◌}
 use Rattle.laws.proofs.Tests.{true_false, and_true}
 use Rattle.laws.proofs.Fronts.{drop_next}
@@ -158,14 +158,14 @@ module _ (G : Schema) (n : Named) where
 
   -- a first digit
   first_tested : (fs : List Frame) (f : Frame) (d : ℕ) → Tested G n (due fs f)
-      → Tested G (digit_next G n n.digit d) (ended (if eqb d 1 then name-one else primary) fs f (name d))
+      → Tested G (digit_next G n n.digit d) (ended (when eqb d 1 then name-one else primary) fs f (name d))
   unfolding outer_names names
   first_tested fs f d h = rw h.last (record { all_is = all_is; last = by_test (eqb d 1) })
     where
       all_is : first_of n.all (name_verdict G d) ≡ names_verdict G (outer_names (f ∷ fs) ++ (d ∷ []))
       all_is = ap (λ (v : Verdict). first_of v (name_verdict G d)) h.all_is ∙ name_more G (outer_names (f ∷ fs)) d
 
-      by_test : (t : Bool) → Last G (digit_next G n false d) (ended (if t then name-one else primary) fs f (name d))
+      by_test : (t : Bool) → Last G (digit_next G n false d) (ended (when t then name-one else primary) fs f (name d))
       by_test true = (refl, h.all_is)
       by_test false = tt
 
@@ -183,7 +183,7 @@ module _ (G : Schema) (n : Named) where
   digit_tested (due fs f) d h e = subst (Tested G _) (some_inj e) (first_tested fs f d h)
   digit_tested (ended name-one fs f p) d {m} h e = by_test (ltb d 6) e
     where
-      by_test : (t : Bool) → (if t then some (ended primary fs f (name (10 + d))) else none) ≡ some m → Tested G (digit_next G n n.digit d) m
+      by_test : (t : Bool) → (when t then some (ended primary fs f (name (10 + d))) else none) ≡ some m → Tested G (digit_next G n n.digit d) m
       by_test true e = subst (Tested G _) (some_inj e) (second_tested fs f p d h)
       by_test false e = none_some e
   digit_tested (ended primary fs f p) d h e = none_some e
@@ -194,7 +194,7 @@ module _ (G : Schema) (n : Named) where
   unfolding quiet
   next_tested s b {m} h e = by_digit_lem (is_digit b) refl
     where
-      by_digit_lem : (t : Bool) → is_digit b ≡ t → Tested G (if t then digit_next G n n.digit (b - 48) else quiet) m
+      by_digit_lem : (t : Bool) → is_digit b ≡ t → Tested G (when t then digit_next G n n.digit (b - 48) else quiet) m
       by_digit_lem true i = digit_tested s (b - 48) h (sym (ap (step_of s) (a_digit b i)) ∙ step_is s b ∙ e)
       by_digit_lem false i =
           let x = not_digit b (sign b) (sign_spells b) i in

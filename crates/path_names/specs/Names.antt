@@ -1,6 +1,6 @@
 -- The verdicts of a path's names as one pass over its bytes keeps them.
 use Rattle.std.specs.Prelude.{Bool, true, false, List, [], ◌∷◌, ℕ, ◌+◌, ◌-◌}
-use Rattle.laws.specs.Lists.{if◌then◌else◌}
+use Rattle.laws.specs.Lists.{when◌then◌else◌}
 use Rattle.algebra.specs.Columns.{Schema}
 use Rattle.database.specs.declared.Verdict.{Verdict}
 use Rattle.database.specs.Refusals.{verdict, no_fault}
@@ -21,4 +21,4 @@ digit_next G n true d = record { before = n.before; all = first_of n.before (nam
 digit_next G n false d = record { before = n.all; all = first_of n.all (name_verdict G d); digit = true }
 
 abbrev pub named_next : Schema → Named → ℕ → Named
-named_next G n b = if is_digit b then digit_next G n n.digit (b - 48) else record { before = n.before; all = n.all; digit = false }
+named_next G n b = when is_digit b then digit_next G n n.digit (b - 48) else record { before = n.before; all = n.all; digit = false }

@@ -9,7 +9,7 @@ use lib.Dec.{ltb}
 use lib.ListN.{length, take, drop, get_or, set, replicate, length-append, length-take, length-drop, length-map}
 use lib.Seq.{take_all, take-append-le, take-suc, get_or-drop, set_at, append_snoc, drop_at, take_at}
 use borrow.Author.Tests.{lt-ltb, le-ltb, le-leb, lt-leb}
-use Rattle.laws.specs.Lists.{if◌then◌else◌}
+use Rattle.laws.specs.Lists.{when◌then◌else◌}
 use Rattle.query.specs.declared.Node.{Node}
 use Rattle.query.specs.declared.Line.{Line}
 use Rattle.query.specs.declared.Query.{Query}
@@ -67,7 +67,7 @@ module _ (limit : ℕ) (low : limit ≤ node_limit) where
   unfolding put_line
   put_fits l x h =
       ap (λ s. put_line limit s x) (sheet_fits limit l (omega arith))
-      ∙ ap (λ (b : Bool). if b then record { query = query_value l; over = true } else record { query = stored (query_value l) x; over = false })
+      ∙ ap (λ (b : Bool). when b then record { query = query_value l; over = true } else record { query = stored (query_value l) x; over = false })
       (lt-leb limit (length l) h)
       ∙ ap (λ q. record { query = q; over = false }) (stored_more l x (omega arith))
       ∙ sym (sheet_fits limit (l ++ (x ∷ [])) (omega (arith, length-append l (x ∷ []))))
@@ -75,7 +75,7 @@ module _ (limit : ℕ) (low : limit ≤ node_limit) where
   put_full : (l : List Node) (x : Node) → limit ≤ length l → put_line limit (sheet_of limit l) x ≡ sheet_of limit (l ++ (x ∷ []))
   unfolding put_line
   put_full l x h =
-      ap (λ (b : Bool). if b then record { query = query_value (take limit l); over = true } else record { query = stored (query_value (take limit l)) x; over = ltb limit (length l) })
+      ap (λ (b : Bool). when b then record { query = query_value (take limit l); over = true } else record { query = stored (query_value (take limit l)) x; over = ltb limit (length l) })
       (le-leb limit (length (take limit l)) (omega (arith, length-take limit l)))
       ∙ ap₂ (λ (k : List Node) (b : Bool). record { query = query_value k; over = b }) (sym (take-append-le limit l (x ∷ []) h))
       (sym (lt-ltb limit (length (l ++ (x ∷ []))) (omega (arith, length-append l (x ∷ [])))))
@@ -92,7 +92,7 @@ module _ (limit : ℕ) (low : limit ≤ node_limit) where
   pub replaced_last : (l : List Node) (x y : Node) → length l < limit → replaced (sheet_of limit (l ++ (x ∷ []))) (length l) y ≡ sheet_of limit (l ++ (y ∷ []))
   replaced_last l x y h =
       ap (λ s. replaced s (length l) y) (sheet_fits limit (l ++ (x ∷ [])) (omega (arith, length-append l (x ∷ []))))
-      ∙ ap (λ (b : Bool). if b then record { query = query_value (l ++ (x ∷ [])); over = false } else record {
+      ∙ ap (λ (b : Bool). when b then record { query = query_value (l ++ (x ∷ [])); over = false } else record {
         query = record { count = length (l ++ (x ∷ [])); lines = set (query_value (l ++ (x ∷ []))).lines (length l) (line y) };
         over = false;
       }) (lt-leb node_limit (length l) (omega arith))

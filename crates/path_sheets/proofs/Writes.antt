@@ -10,7 +10,7 @@ use lib.Dec.{ltb}
 use lib.ListN.{length, take, get_or, set, length-append, length-set}
 use lib.Seq.{take_all, take-take, take-suc-set, take_at, get_or-take, get_or_at}
 use borrow.Author.Tests.{lt-leb}
-use Rattle.laws.specs.Lists.{if◌then◌else◌}
+use Rattle.laws.specs.Lists.{when◌then◌else◌}
 use Rattle.query.specs.declared.Node.{Node}
 use Rattle.query.specs.declared.Node.TheVariants.{Table, Var, Fix}
 use Rattle.query.specs.Lines.{node_limit}
@@ -67,7 +67,7 @@ module _ (limit : ℕ) (low : limit ≤ node_limit) where
           let n : w.numbers ≡ outer_recursions (fresh ∷ (f ∷ fs)) = omega arith in
           let d : length fs + 1 ≡ suc (length fs) = omega arith in
           let chosen : by_sign limit w Enter ≡ entered (due_with w w.sheet false false) (length fs + 1) (before_of fs f) =
-          ap (λ (b : Bool). if b then w else entered (due_with w w.sheet false false) (length fs + 1) (before_of fs f)) (lt-leb path_limit (length fs) shallow) in (
+          ap (λ (b : Bool). when b then w else entered (due_with w w.sheet false false) (length fs + 1) (before_of fs f)) (lt-leb path_limit (length fs) shallow) in (
             ap (λ (x : Writing). x.sheet) chosen ∙ e,
             λ h. record {
               outer = set outer (length fs) (before_of fs f);
@@ -173,7 +173,7 @@ module _ (limit : ℕ) (low : limit ≤ node_limit) where
         sym (get_or-take (suc (length fs)) outer (length fs) no_before (omega arith)) ∙ ap (λ (o : List Before). get_or o (length fs) no_before) inside
         ∙ get_or_at (outer_of fs) (before_of fs g) [] no_before (length fs) (outer_length fs) in
         let chosen : by_sign limit x Leave ≡ left l x.numbers (get_or outer (suc (length fs) - 1) no_before) (suc (length fs) - 1) =
-        ap (λ (b : Bool). if b then x else left l x.numbers (get_or outer (suc (length fs) - 1) no_before) (suc (length fs) - 1))
+        ap (λ (b : Bool). when b then x else left l x.numbers (get_or outer (suc (length fs) - 1) no_before) (suc (length fs) - 1))
         (lt-leb path_limit (suc (length fs) - 1) (omega arith)) in (
           ap (λ (y : Writing). y.sheet) chosen ∙ t,
           held
@@ -193,7 +193,7 @@ module _ (limit : ℕ) (low : limit ≤ node_limit) where
         → (d : ℕ) → Next (ended k fs (frame a s i) p) (Digit d) (digit_step k fs (frame a s i) d)
     digit_behind name-one fs inside shallow a s i p fits one d = by_test (ltb d 6)
       where
-        by_test : (t : Bool) → Next (ended name-one fs (frame a s i) p) (Digit d) (if t then some (ended primary fs (frame a s i) (name (10 + d))) else none)
+        by_test : (t : Bool) → Next (ended name-one fs (frame a s i) p) (Digit d) (when t then some (ended primary fs (frame a s i) (name (10 + d))) else none)
         by_test true = teen_next fs inside shallow name-one a s i p fits (one refl) d
         by_test false = tt
     digit_behind primary fs inside shallow a s i p fits one d = tt

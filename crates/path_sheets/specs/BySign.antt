@@ -1,6 +1,6 @@
 -- What each sign does to what is written.
 use Rattle.std.specs.Prelude.{Bool, true, false, [], ◌++◌, ℕ, ◌+◌, ◌-◌, min, leb, get_or, set, replicate}
-use Rattle.laws.specs.Lists.{if◌then◌else◌}
+use Rattle.laws.specs.Lists.{when◌then◌else◌}
 use Rattle.query.specs.declared.Node.TheVariants.{Table}
 use Rattle.query.specs.Lines.{node_limit}
 use Rattle.text.specs.Texts.{query_value}
@@ -45,7 +45,7 @@ ended_with w s n = record { sheet = s; numbers = n; ended = true; before = w.bef
 
 abbrev pub by_digit : ℕ → Writing → ℕ → Writing
 by_digit limit w d =
-    if w.ended
+    when w.ended
     then ended_with w (replaced w.sheet w.before.first (Table (10 + d))) w.numbers
     else ended_with w (put_line limit w.sheet (Table d)) w.numbers
 
@@ -85,7 +85,7 @@ by_plus limit w =
 
 abbrev pub by_enter : Writing → Writing
 by_enter w =
-    if leb path_limit w.depth then w else
+    when leb path_limit w.depth then w else
     record {
       sheet = w.sheet;
       numbers = w.numbers;
@@ -97,7 +97,7 @@ by_enter w =
 
 abbrev pub by_leave : ℕ → Writing → Writing
 by_leave limit w =
-    if leb path_limit (w.depth - 1) then w else
+    when leb path_limit (w.depth - 1) then w else
     record {
       sheet = put_all limit w.sheet (path_last w.before);
       numbers = w.numbers;

@@ -1,6 +1,6 @@
 -- Lines put behind a sheet's, as far as there is room, and which lines end what stands before an operand.
 use Rattle.std.specs.Prelude.{Bool, true, false, List, [], ◌∷◌, ◌++◌, map, ℕ, ◌+◌, ◌-◌, min, leb, take, drop, set}
-use Rattle.laws.specs.Lists.{if◌then◌else◌}
+use Rattle.laws.specs.Lists.{when◌then◌else◌}
 use Rattle.algebra.specs.declared.Pairing.TheVariants.{Union}
 use Rattle.query.specs.declared.Node.{Node}
 use Rattle.query.specs.declared.Node.TheVariants.{Table, Var, Fact, Pair, Filter, Copy, Drop, Fix, Mu, Last}
@@ -16,7 +16,7 @@ use Rattle.path_sheets.specs.declared.Before.{Before}
 -- one line more, if there is room
 unfoldable pub put_line : ℕ → Sheet → Node → Sheet
 put_line limit s x =
-    if leb limit s.query.count then record { query = s.query; over = true } else record { query = stored s.query x; over = s.over }
+    when leb limit s.query.count then record { query = s.query; over = true } else record { query = stored s.query x; over = s.over }
 
 unfoldable pub put_all : ℕ → Sheet → List Node → Sheet
 put_all limit s [] = s
@@ -59,4 +59,4 @@ plus_lines q first r v =
 -- a sheet with another line at an index
 abbrev pub replaced : Sheet → ℕ → Node → Sheet
 replaced s at x =
-    if leb node_limit at then s else record { query = record { count = s.query.count; lines = set s.query.lines at (line x) }; over = s.over }
+    when leb node_limit at then s else record { query = record { count = s.query.count; lines = set s.query.lines at (line x) }; over = s.over }

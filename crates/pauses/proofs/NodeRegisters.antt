@@ -7,7 +7,7 @@ use Prim.Native.Nat.{ℕ, suc, ◌+◌, ◌≤◌, ◌<◌}
 use native.Mathlib.Omega.{arith}
 use lib.ListN.{length, take, drop, get_or, length-append, length-map, take-append-drop, get_or-append}
 use lib.Seq.{take_all, drop-cons, get_or_at, get_or-append-add}
-use Rattle.laws.specs.Lists.{if◌then◌else◌}
+use Rattle.laws.specs.Lists.{when◌then◌else◌}
 use Rattle.laws.proofs.Tests.{if_apply}
 use Rattle.laws.proofs.EachMember.{get_d_map, flat_map_append}
 use Rattle.laws.proofs.FlatMaps.{flat_map_more}
@@ -21,7 +21,7 @@ use Rattle.machine.specs.Pauses.{delta_columns, own_columns, added_columns, regi
 use Rattle.machine.proofs.RegisterColumns.{added_length}
 
 -- a fix is told by its line
-delta_line : (t : Term) (D : Cols) → delta_columns t D ≡ if has_step (root t) then some D ∷ [] else []
+delta_line : (t : Term) (D : Cols) → delta_columns t D ≡ when has_step (root t) then some D ∷ [] else []
 unfolding delta_columns
 delta_line (table t) D = refl
 delta_line (var v) D = refl
@@ -88,7 +88,7 @@ module _ (G : Schema) (t : Term) where
   unfolding fixes_before flat_map
   fixes_none = refl
 
-  pub fixes_more : (i : ℕ) → i < size t → fixes_before (i + 1) ≡ fixes_before i + (if is_fix i then 1 else 0)
+  pub fixes_more : (i : ℕ) → i < size t → fixes_before (i + 1) ≡ fixes_before i + (when is_fix i then 1 else 0)
   unfolding fixes_before
   fixes_more i h =
       let m = nodes_counted in

@@ -8,7 +8,7 @@ use native.Mathlib.Omega.{arith}
 use lib.Dec.{eqb, leb}
 use lib.ListN.{length, get_or}
 use lib.Seq.{take_all}
-use Rattle.laws.specs.Lists.{if◌then◌else◌, all, every}
+use Rattle.laws.specs.Lists.{when◌then◌else◌, all, every}
 use Rattle.laws.proofs.Tests.{true_false, and_true_left, and_true_right}
 use Rattle.laws.proofs.Tabulated.{get_d_tabulate}
 use Rattle.laws.proofs.EachMember.{get_d_map}
@@ -56,11 +56,11 @@ module _ (w L : ℕ) (ws : List ℕ) where
   node_round : (x : Node) (D : Cols) (i delta : ℕ) → node_ok w L ws x (cols_of w (columns_of w D)) i delta ≡ node_ok w L ws x D i delta
   unfolding node_ok
   node_round x D i delta =
-      ap₂ (λ (a b : Bool). if is_var x then place_ok w L ws none i else a && (if has_step x then b else true)) (some_round D i) (some_round D delta)
+      ap₂ (λ (a b : Bool). when is_var x then place_ok w L ws none i else a && (when has_step x then b else true)) (some_round D i) (some_round D delta)
 
   -- a `var` is told by its line, and is no fix
   node_line_lem : (t : Term) (D : Cols) (i delta : ℕ)
-      → node_ok w L ws (root t) D i delta ≡ place_ok w L ws (node_columns t D) i && (if has_step (root t) then place_ok w L ws (some D) delta else true)
+      → node_ok w L ws (root t) D i delta ≡ place_ok w L ws (node_columns t D) i && (when has_step (root t) then place_ok w L ws (some D) delta else true)
   unfolding node_ok node_columns
   node_line_lem (table t) D i delta = refl
   node_line_lem (var v) D i delta = sym (and_unit (place_ok w L ws none i))
@@ -102,7 +102,7 @@ module _ {w L : ℕ} {q : Query} {facts : Facts} {ws : List ℕ} {d : Database} 
 
   node_is : (z : Columns) (i : ℕ) → i < size t
       → node_ok w L ws (get_or (nodes q) i (Table 0)) (cols_of w (get_or facts.columns i z)) i (delta_of i)
-      ≡ fine i && (if is_fix G t i then fine (delta_of i) else true)
+      ≡ fine i && (when is_fix G t i then fine (delta_of i) else true)
   node_is z i h =
       let D = node_cols G t i in
       let x = node G t i in
@@ -111,7 +111,7 @@ module _ {w L : ℕ} {q : Query} {facts : Facts} {ws : List ℕ} {d : Database} 
       ∙ node_line_lem w L ws x.term D i (delta_of i)
       ∙ ap₂ ◌&&◌ (ap (λ (o : Option Cols). place_ok w L ws o i) (sym (own_at G t i h))) (by_step (is_fix G t i) refl)
     where
-      by_step : (b : Bool) → is_fix G t i ≡ b → (if b then place_ok w L ws (some (node_cols G t i)) (delta_of i) else true) ≡ if b then fine (delta_of i) else true
+      by_step : (b : Bool) → is_fix G t i ≡ b → (when b then place_ok w L ws (some (node_cols G t i)) (delta_of i) else true) ≡ when b then fine (delta_of i) else true
       by_step true e = ap (λ (o : Option Cols). place_ok w L ws o (delta_of i)) (sym (delta_at G t i h e))
       by_step false e = refl
 
@@ -133,7 +133,7 @@ module _ {w L : ℕ} {q : Query} {facts : Facts} {ws : List ℕ} {d : Database} 
 
   -- both tests of a node
   abbrev pub both_fine : ℕ → Bool
-  both_fine i = fine i && (if is_fix G t i then fine (delta_of i) else true)
+  both_fine i = fine i && (when is_fix G t i then fine (delta_of i) else true)
 
   -- the registers of the first i nodes have passed; registers: the delta register of the next fix
   pub record SoFar (i registers : ℕ) : Type 0 where
@@ -160,7 +160,7 @@ module _ {w L : ℕ} {q : Query} {facts : Facts} {ws : List ℕ} {d : Database} 
 
   module _ {i registers : ℕ} (here : i < size t) (s : SoFar i registers) (passes : both_fine i ≡ true) where
     own_passes : fine i ≡ true
-    own_passes = and_true_left (fine i) (if is_fix G t i then fine (delta_of i) else true) passes
+    own_passes = and_true_left (fine i) (when is_fix G t i then fine (delta_of i) else true) passes
 
     pub one_fix : is_fix G t i ≡ true → SoFar (i + 1) (registers + 1)
     one_fix e = record {
@@ -184,11 +184,11 @@ module _ {w L : ℕ} {q : Query} {facts : Facts} {ws : List ℕ} {d : Database} 
   pub one_fails : (i : ℕ) → i < size t → both_fine i ≡ false → places_ok w L G t ws ≡ false
   one_fails i h e = by_own (fine i) refl e
     where
-      by_step : (b : Bool) → is_fix G t i ≡ b → (if b then fine (delta_of i) else true) ≡ false → places_ok w L G t ws ≡ false
+      by_step : (b : Bool) → is_fix G t i ≡ b → (when b then fine (delta_of i) else true) ≡ false → places_ok w L G t ws ≡ false
       by_step true f e = failed (delta_of i) (delta_there i h f) e
       by_step false f e = true_false e
 
-      by_own : (b : Bool) → fine i ≡ b → b && (if is_fix G t i then fine (delta_of i) else true) ≡ false → places_ok w L G t ws ≡ false
+      by_own : (b : Bool) → fine i ≡ b → b && (when is_fix G t i then fine (delta_of i) else true) ≡ false → places_ok w L G t ws ≡ false
       by_own true f e = by_step (is_fix G t i) refl e
       by_own false f e = failed i (omega arith) f
 

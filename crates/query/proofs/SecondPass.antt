@@ -6,7 +6,7 @@ use mathlib.Core.List.{[]}
 use mathlib.Core.Logic.{inl, inr, ◌↔◌}
 use Prim.Native.Nat.{ℕ, ◌+◌, ◌<◌}
 use native.Mathlib.Decide.{dec_lt}
-use Rattle.laws.specs.Lists.{◌==◌}
+use Rattle.laws.specs.Lists.{◌iff◌}
 use Rattle.laws.proofs.Lists.{all_below, all_true}
 use Rattle.laws.proofs.EmptyLists.{agree_iff, append_none, true_or_false}
 use Rattle.algebra.specs.declared.Pairing.{Pairing}
@@ -24,12 +24,12 @@ past w D h c k = elim (true_or_false (D c)) [ inl e ↦ absurd (k (h c e)) | inr
 
 pub cols_same : (w : ℕ) (D E : Cols) → Below w D → Below w E → same_cols w D E ≡ true → D ≡ E
 cols_same w D E h k e = fun_ext λ c. elim (dec_lt c w) [
-  | yes i ↦ (agree_iff (D c) (E c)).0 (all_below (λ c. D c == E c) w e c i)
+  | yes i ↦ (agree_iff (D c) (E c)).0 (all_below (λ c. D c iff E c) w e c i)
   | no i ↦ past w D h c i ∙ sym (past w E k c i)
 ]
 
 pub same_cols_lem : (w : ℕ) {D E : Cols} → D ≡ E → same_cols w D E ≡ true
-same_cols_lem w {D} {E} e = all_true (λ c. D c == E c) w (λ c _. (agree_iff (D c) (E c)).1 (ap (λ (F : Cols). F c) e))
+same_cols_lem w {D} {E} e = all_true (λ c. D c iff E c) w (λ c _. (agree_iff (D c) (E c)).1 (ap (λ (F : Cols). F c) e))
 
 pub sides_same : (w : ℕ) (o : Pairing) (D E : Cols) → Below w D → Below w E → sides_ok w o D E ≡ true → Sides o D E
 sides_same w Union D E h k e = cols_same w D E h k e

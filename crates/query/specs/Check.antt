@@ -1,7 +1,7 @@
 -- Document 01's "Checking": the two passes as lists of faults in the paper's order; the refusal is the first. Before them each `mu` is split
 -- (document 02, U4), and they see the split sheet only. w is the number of columns.
 use Rattle.std.specs.Prelude.{Bool, true, false, not, ◌&&◌, ◌||◌, List, [], ◌∷◌, ◌++◌, ℕ, ◌+◌, ltb}
-use Rattle.laws.specs.Lists.{◌==◌, every, all, member}
+use Rattle.laws.specs.Lists.{◌iff◌, every, all, member}
 use Rattle.algebra.specs.declared.Pairing.{Pairing}
 use Rattle.algebra.specs.declared.Pairing.TheVariants.{Union, Join, Except}
 use Rattle.algebra.specs.Mapping.{Relation}
@@ -43,7 +43,7 @@ split_term t = do
 
 -- 5, 6, 8 at a pair at node n, whose sides are closed or not
 abbrev pub pair_faults : Pairing → Bool → Bool → ℕ → List Refusal
-pair_faults Union left right n = unless (left == right) (HalfOpen n)
+pair_faults Union left right n = unless (left iff right) (HalfOpen n)
 pair_faults Join left right n = unless (left || right) (OpenJoin n)
 pair_faults Except left right n = unless right (OpenExcept n)
 
@@ -70,7 +70,7 @@ first_pass (fix v a b) around taken n =
 first_pass (mu v a) around taken n = first_pass a around taken n ++ (Unsplit (n + size (mu v a)) ∷ [])
 
 abbrev pub same_cols : ℕ → Cols → Cols → Bool
-same_cols w D E = all (λ c. D c == E c) w
+same_cols w D E = all (λ c. D c iff E c) w
 
 -- 9: the sides of a union
 abbrev pub sides_ok : ℕ → Pairing → Cols → Cols → Bool

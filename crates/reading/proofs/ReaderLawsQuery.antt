@@ -8,7 +8,7 @@ use native.Mathlib.Omega.{arith}
 use lib.Dec.{leb}
 use lib.ListN.{length, drop, set, replicate, length-append}
 use borrow.Author.Tests.{le-leb, lt-leb, leb-true}
-use Rattle.laws.specs.Lists.{if◌then◌else◌, null}
+use Rattle.laws.specs.Lists.{when◌then◌else◌, null}
 use Rattle.laws.proofs.Tests.{true_false, and_true_right}
 use Rattle.laws.proofs.Fronts.{null_drop, more_drop, filled_more}
 use Rattle.database.specs.declared.Refusal.{Refusal}
@@ -35,7 +35,7 @@ use Rattle.text.proofs.ReaderLawsMany.{Left, left_none, left_more, left_stops, l
 -- one more node is stored
 pub stored_more : (ns : List Node) (n : Node) → length ns < node_limit → stored (query_value ns) n ≡ query_value (ns ++ (n ∷ []))
 stored_more ns n h =
-    ap (λ t. if t then query_value ns else more) (lt-leb node_limit (length ns) h)
+    ap (λ t. when t then query_value ns else more) (lt-leb node_limit (length ns) h)
     ∙ ap (λ ls. record { count = length ns + 1; lines = ls }) (filled_more line node_limit blank ns n h)
     ∙ ap (λ k. record { count = k; lines = map line (ns ++ (n ∷ [])) ++ replicate (node_limit - length (ns ++ (n ∷ []))) blank })
     (sym (length-append ns (n ∷ [])))

@@ -1,6 +1,6 @@
 -- The stages of reading a sheet's text. w is the number of columns.
 use Rattle.std.specs.Prelude.{Bool, true, false, ◌&&◌, List, [], ◌∷◌, ℕ, ◌+◌, min, leb, set}
-use Rattle.laws.specs.Lists.{if◌then◌else◌}
+use Rattle.laws.specs.Lists.{when◌then◌else◌}
 use Rattle.database.specs.declared.Refusal.TheVariants.{QueryForm, NodeCount}
 use Rattle.database.specs.declared.Verdict.TheVariants.{Accepted}
 use Rattle.database.specs.Refusals.{Reply, refused, accepted, require, ◌>>=◌}
@@ -16,7 +16,7 @@ use Rattle.text.specs.Cursors.{rest_at}
 
 -- a query with one more node, where there is room for it
 abbrev pub stored : Query → Node → Query
-stored q n = if leb node_limit q.count then q else record { count = q.count + 1; lines = set q.lines q.count (line n) }
+stored q n = when leb node_limit q.count then q else record { count = q.count + 1; lines = set q.lines q.count (line n) }
 
 -- behind the last due line: "nothing after the last", then the node count
 abbrev pub end_test : Rest → ℕ → ℕ → Reply (Unit {0})

@@ -9,7 +9,7 @@ use native.Mathlib.Omega.{arith}
 use lib.Dec.{eqb}
 use lib.ListN.{length, get_or}
 use borrow.Author.Tests.{ne_eqb}
-use Rattle.laws.specs.Lists.{if◌then◌else◌}
+use Rattle.laws.specs.Lists.{when◌then◌else◌}
 use Rattle.laws.proofs.EachMember.{each_at}
 use Rattle.algebra.specs.Term.{Term}
 use Rattle.algebra.specs.Columns.{Cols, no_cols, Schema, size}
@@ -48,7 +48,7 @@ use Rattle.rewrite.proofs.SwapInside.{swap_inside}
 
 -- what a kind adds: "Kind 7 adds a node", the others none
 abbrev pub added : ℕ → ℕ
-added k = if eqb k 7 then 1 else 0
+added k = when eqb k 7 then 1 else 0
 
 pub none_added : (k : ℕ) → k ≤ 6 → added k ≡ 0
 none_added k h = rw (ne_eqb k 7 (λ e. omega arith))
@@ -93,7 +93,7 @@ module _ (w limit : ℕ) (q : Query) (d : Database) (store : List ℕ) (t : Term
   allows_room (by_rule i m found h g j) = let z = none_added k i in omega (arith, few_checked w limit q d store t over)
   allows_room (by_past i m found h g) = by_test (eqb k 7) (λ j. h (past_adds k a found ∙ j))
     where
-      by_test : (adds : Bool) → (adds ≡ true → Room w limit q d store t over k n) → size t + (if adds then 1 else 0) ≤ limit
+      by_test : (adds : Bool) → (adds ≡ true → Room w limit q d store t over k n) → size t + (when adds then 1 else 0) ≤ limit
       by_test true room = let less = room refl in omega arith
       by_test false room = omega (arith, few_checked w limit q d store t over)
 

@@ -5,7 +5,7 @@ use mathlib.Core.List.{List, [], ◌∷◌}
 use Prim.Native.Nat.{ℕ, ◌<◌}
 use lib.Dec.{eqb}
 use lib.ListN.{length}
-use Rattle.laws.specs.Lists.{if◌then◌else◌, any, member, tabulate}
+use Rattle.laws.specs.Lists.{when◌then◌else◌, any, member, tabulate}
 use Rattle.laws.proofs.Tabulated.{length_tabulate, get_d_tabulate}
 use Rattle.laws.proofs.Indexed.{is_tabulate}
 use Rattle.algebra.specs.Columns.{Cols, with, both}
@@ -21,7 +21,7 @@ or_assoc : (a b c : Bool) → (a || b) || c ≡ a || (b || c)
 or_assoc true b c = refl
 or_assoc false b c = refl
 
-if_or : (a b : Bool) → (if b then true else a) ≡ a || b
+if_or : (a b : Bool) → (when b then true else a) ≡ a || b
 if_or true true = refl
 if_or true false = refl
 if_or false true = refl

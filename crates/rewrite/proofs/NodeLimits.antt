@@ -8,7 +8,7 @@ use Prim.Native.Nat.{ℕ, ◌+◌, ◌≤◌, ◌<◌}
 use native.Mathlib.Omega.{arith}
 use lib.Dec.{leb, ltb}
 use borrow.Author.Tests.{lt-ltb, eq-eqb}
-use Rattle.laws.specs.Lists.{if◌then◌else◌}
+use Rattle.laws.specs.Lists.{when◌then◌else◌}
 use Rattle.laws.proofs.EachMember.{Each, each_map}
 use Rattle.algebra.specs.Term.{Term}
 use Rattle.algebra.specs.Columns.{Cols, no_cols, size}
@@ -32,7 +32,7 @@ use Rattle.rewrite.proofs.Held.{checked_first, node_count_lem}
 module _ (q : Query) (limit limit' : ℕ) (e : leb q.count limit ≡ leb q.count limit') (w : ℕ) (d : Database) (store : List ℕ) (k n : ℕ)
     (room : k ≡ 7 → (t : Term) → check_over w limit q d store ≡ accepted t → ltb (size t) limit ≡ ltb (size t) limit') where
   same_rule : (r r' : Bool) → (k ≡ 7 → r ≡ r') → (C : Cols) (a : Term) → rule_of r (schema w d) C k a ≡ rule_of r' (schema w d) C k a
-  same_rule r r' h C a = ap (λ (x : Reply Term). if leb k 6 then rule (schema w d) C k a else x) (past_room r r' (schema w d) C k h a)
+  same_rule r r' h C a = ap (λ (x : Reply Term). when leb k 6 then rule (schema w d) C k a else x) (past_room r r' (schema w d) C k h a)
 
   abbrev C : Term → Cols
   C t = around (schema w d) no_cols t n

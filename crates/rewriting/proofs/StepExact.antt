@@ -5,7 +5,7 @@ use mathlib.Core.List.{List, []}
 use Prim.Native.Nat.{ℕ, ◌+◌, ◌-◌, ◌≤◌}
 use lib.Dec.{leb, ltb}
 use lib.ListN.{length}
-use Rattle.laws.specs.Lists.{if◌then◌else◌}
+use Rattle.laws.specs.Lists.{when◌then◌else◌}
 use Rattle.algebra.specs.Term.{Term}
 use Rattle.algebra.specs.Columns.{Cols, no_cols, Schema, size}
 use Rattle.relation.specs.Rows.{columns}
@@ -46,8 +46,8 @@ module _ (d : Database) (limit : ℕ) (q : Query) (t : Term) (checked : Checked 
       → rule_of room G C k a >>= (λ b. accepted (replaced_by q n a b)) ≡ kind_reply limit q facts k (n - 1)
   kind_reply_lem C s a h e = by_kind (leb k 6)
     where
-      by_kind : (low : Bool) → (if low then rule G C k a else past_rule room G C k a) >>= (λ b. accepted (replaced_by q n a b))
-          ≡ (if low then reply_to q facts (n - 1) (found_at q facts k (n - 1)) else pass_reply limit q facts k (n - 1))
+      by_kind : (low : Bool) → (when low then rule G C k a else past_rule room G C k a) >>= (λ b. accepted (replaced_by q n a b))
+          ≡ (when low then reply_to q facts (n - 1) (found_at q facts k (n - 1)) else pass_reply limit q facts k (n - 1))
       by_kind true = node_reply_lem d limit q t checked counted fits k n a h e
       by_kind false = pass_exact d limit q t checked counted fits k n a h e
 

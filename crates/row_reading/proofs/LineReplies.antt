@@ -9,7 +9,7 @@ use lib.Dec.{leb}
 use lib.ListN.{length, replicate}
 use lib.Seq.{length-take-le}
 use borrow.Author.Tests.{leb-true, leb-false, eq-eqb, ne_eqb}
-use Rattle.laws.specs.Lists.{if◌then◌else◌}
+use Rattle.laws.specs.Lists.{when◌then◌else◌}
 use Rattle.laws.specs.Options.{◌then◌}
 use Rattle.laws.proofs.Tests.{true_false}
 use Rattle.laws.proofs.Options.{none_some}
@@ -36,7 +36,7 @@ pub few_short : (w : ℕ) (o : Option (List ℕ)) → length (or_empty (few w o)
 few_short w none = omega arith
 few_short w (some l) = by_test (leb (length l) w) refl
   where
-    by_test : (t : Bool) → leb (length l) w ≡ t → length (or_empty (if t then some l else none)) ≤ w
+    by_test : (t : Bool) → leb (length l) w ≡ t → length (or_empty (when t then some l else none)) ≤ w
     by_test true e = leb-true (length l) w e
     by_test false e = omega arith
 
@@ -44,7 +44,7 @@ few_held : (w : ℕ) (o : Option (List ℕ)) → (length (or_empty (few w o)) �
 few_held w none h = absurd (h refl)
 few_held w (some l) h = by_test (leb (length l) w) h
   where
-    by_test : (t : Bool) → (length (or_empty (if t then some l else none)) ≡ 0 → ⊥) → some l ≡ some (or_empty (if t then some l else none))
+    by_test : (t : Bool) → (length (or_empty (when t then some l else none)) ≡ 0 → ⊥) → some l ≡ some (or_empty (when t then some l else none))
     by_test true h = refl
     by_test false h = absurd (h refl)
 
@@ -53,9 +53,9 @@ module _ (w : ℕ) (l : List ℕ) where
   abbrev found : Option (List ℕ)
   found = few w (numbers_behind (bytes "cols=") l)
 
-  pub cols_read : (t : Bool) → t ≡ columns_in w (or_empty found) → (if t then or_empty found else []) ≡ or_empty (cols_line w l)
+  pub cols_read : (t : Bool) → t ≡ columns_in w (or_empty found) → (when t then or_empty found else []) ≡ or_empty (cols_line w l)
   cols_read t e =
-      ap (λ t. if t then or_empty found else []) e ∙ cols_empty w found
+      ap (λ t. when t then or_empty found else []) e ∙ cols_empty w found
       ∙ ap or_empty (cols_few w (numbers_behind (bytes "cols=") l) ∙ sym (ap (in_range (columns_in w)) (numbers_behind_lem "cols=" l)))
 
   pub cols_none : length (or_empty (cols_line w l)) ≡ 0 → cols_line w l ≡ none
@@ -79,10 +79,10 @@ values_none w cs none e h z = refl
 values_none w cs (some []) e h z = none_some (sym e)
 values_none w cs (some (n ∷ l)) e h z = by_test (leb (length (n ∷ l)) w) refl z
   where
-    by_test : (t : Bool) → leb (length (n ∷ l)) w ≡ t → length (or_empty (if t then some (n ∷ l) else none)) ≡ 0 → row_of w cs (some (n ∷ l)) ≡ none
+    by_test : (t : Bool) → leb (length (n ∷ l)) w ≡ t → length (or_empty (when t then some (n ∷ l) else none)) ≡ 0 → row_of w cs (some (n ∷ l)) ≡ none
     by_test true q z = let f : ⊥ = omega arith in absurd f
     by_test false q z =
-        ap (λ t. if t then some (filled (replicate w 0) cs (n ∷ l)) else none)
+        ap (λ t. when t then some (filled (replicate w 0) cs (n ∷ l)) else none)
         (ne_eqb (length (n ∷ l)) (length cs) (λ s. let k = leb-false (length (n ∷ l)) w q in omega arith))
 
 module _ (w : ℕ) (cs : List ℕ) (o : Option (List ℕ)) (some_read : length (or_empty (few w o)) ≡ 0 → ⊥) where
@@ -92,12 +92,12 @@ module _ (w : ℕ) (cs : List ℕ) (o : Option (List ℕ)) (some_read : length (
   pub values_other : (length values ≡ length cs → ⊥) → row_of w cs o ≡ none
   values_other h =
       ap (row_of w cs) (few_held w o some_read)
-      ∙ ap (λ t. if t then some (filled (replicate w 0) cs values) else none) (ne_eqb (length values) (length cs) h)
+      ∙ ap (λ t. when t then some (filled (replicate w 0) cs values) else none) (ne_eqb (length values) (length cs) h)
 
   pub values_same : length values ≡ length cs → row_of w cs o ≡ some (filled (replicate w 0) cs values)
   values_same h =
       ap (row_of w cs) (few_held w o some_read)
-      ∙ ap (λ t. if t then some (filled (replicate w 0) cs values) else none) (eq-eqb (length values) (length cs) h)
+      ∙ ap (λ t. when t then some (filled (replicate w 0) cs values) else none) (eq-eqb (length values) (length cs) h)
 
 -- a list of numbers behind a key is never empty
 behind_some : (key l : List ℕ) → if_empty (tt {0}) (numbers_behind key l) ≡ none
@@ -157,7 +157,7 @@ module _ (w : ℕ) (cs : List ℕ) (first : Bool) (above : Row) (l : List ℕ) w
       any_row none = refl
       any_row (some r) = refl
 
-  pub row_next : first ≡ false → (r : List ℕ) → row ≡ some r → line ≡ if is_less (ordered above.slots r) then some r else none
+  pub row_next : first ≡ false → (r : List ℕ) → row ≡ some r → line ≡ when is_less (ordered above.slots r) then some r else none
   row_next e r q = followed ∙ ap (λ b. in_range (follows (above_of b above)) row) e ∙ ap (in_range (follows (some above.slots))) q
 
 -- what a reply says of what was read

@@ -9,7 +9,7 @@ use lib.Dec.{ltb}
 use lib.ListN.{length, take, drop, replicate, length-append}
 use lib.Seq.{take-append_seam}
 use borrow.Author.Tests.{le-leb, lt-leb, ltb-true, ltb-false}
-use Rattle.laws.specs.Lists.{if◌then◌else◌}
+use Rattle.laws.specs.Lists.{when◌then◌else◌}
 use Rattle.laws.specs.Options.{mapped, ◌then◌}
 use Rattle.laws.proofs.Options.{none_some}
 use Rattle.laws.proofs.Stretches.{padded_more}
@@ -57,7 +57,7 @@ module _ (l : List ℕ) (at end : ℕ) (found : end ≡ at + before comma (drop 
 
 -- a list that is short enough
 few_some : (w : ℕ) (l : List ℕ) → length l ≤ w → few w (some l) ≡ some l
-few_some w l h = ap (λ b. if b then some l else none) (le-leb (length l) w h)
+few_some w l h = ap (λ b. when b then some l else none) (le-leb (length l) w h)
 
 -- after some numbers: they come first, and the others are left at a position
 pub record Turn (line : List ℕ) (from : ℕ) (found : Numbers) (at : ℕ) : Type 0 where
@@ -119,5 +119,5 @@ module _ (line : List ℕ) (from : ℕ) (found : Numbers) (at : ℕ) (t : Turn l
       by_case none e = refl
       by_case (some []) e = none_some (sym e)
       by_case (some (n ∷ ns)) e =
-          ap (λ b. if b then some (t.read ++ (n ∷ ns)) else none)
+          ap (λ b. when b then some (t.read ++ (n ∷ ns)) else none)
           (lt-leb (length (t.read ++ (n ∷ ns))) columns (omega (arith, length-append t.read (n ∷ ns), turn_count)))

@@ -9,7 +9,7 @@ use lib.Dec.{leb, ltb}
 use lib.ListN.{length, drop, get_or, set, length-take, drop_of_length-le}
 use lib.Seq.{get_or-take}
 use borrow.Author.Tests.{le-leb, lt-leb, leb-true, leb-false, lt-ltb, le-ltb, ltb-true, ltb-false, eq-eqb, ne_eqb}
-use Rattle.laws.specs.Lists.{if◌then◌else◌, every, any, member}
+use Rattle.laws.specs.Lists.{when◌then◌else◌, every, any, member}
 use Rattle.laws.proofs.Tests.{and_true_left, and_true_right}
 use Rattle.laws.proofs.Fronts.{drop_next}
 use Rattle.row_reading.specs.declared.list_reader.Numbers.{Numbers}
@@ -98,20 +98,20 @@ module _ (w : ℕ) where
   cols_few none = refl
   cols_few (some l) = by_test (leb (length l) w) refl
     where
-      over : (t : Bool) → columns_in l ≡ t → w < length l → none ≡ if t then some l else none
+      over : (t : Bool) → columns_in l ≡ t → w < length l → none ≡ when t then some l else none
       over true e h = let z : ⊥ = omega (arith, columns_few l e) in absurd z
       over false e h = refl
 
-      by_test : (t : Bool) → leb (length l) w ≡ t → in_range columns_in (if t then some l else none) ≡ in_range columns_in (some l)
+      by_test : (t : Bool) → leb (length l) w ≡ t → in_range columns_in (when t then some l else none) ≡ in_range columns_in (some l)
       by_test true e = refl
       by_test false e = over (columns_in l) refl (leb-false (length l) w e)
 
-  pub cols_empty : (o : Option (List ℕ)) → (if columns_in (or_empty o) then or_empty o else []) ≡ or_empty (in_range columns_in o)
+  pub cols_empty : (o : Option (List ℕ)) → (when columns_in (or_empty o) then or_empty o else []) ≡ or_empty (in_range columns_in o)
   unfolding ascending every
   cols_empty none = refl
   cols_empty (some l) = by_test (columns_in l)
     where
-      by_test : (t : Bool) → (if t then l else []) ≡ or_empty (if t then some l else none)
+      by_test : (t : Bool) → (when t then l else []) ≡ or_empty (when t then some l else none)
       by_test true = refl
       by_test false = refl
 

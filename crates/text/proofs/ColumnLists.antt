@@ -9,7 +9,7 @@ use native.Mathlib.Nat.{not-suc-le-zero}
 use native.Mathlib.Decide.{dec_lt}
 use lib.Dec.{eqb, ltb}
 use borrow.Author.Tests.{lt-ltb}
-use Rattle.laws.specs.Lists.{if◌then◌else◌, null, any, member, all, sift, tabulate}
+use Rattle.laws.specs.Lists.{when◌then◌else◌, null, any, member, all, sift, tabulate}
 use Rattle.laws.proofs.Tests.{true_false, same?, and_true}
 use Rattle.laws.proofs.Lists.{member_head, sift_append}
 use Rattle.laws.proofs.EmptyLists.{member_append}
@@ -27,7 +27,7 @@ unfolding sift tabulate
 columns_hold P D z with without zero = z
 columns_hold P D z with without (suc w) = rw (sift_append D (tabulate (λ c. c) w) (w ∷ [])) (by_test (D w) refl (columns_hold P D z with without w))
   where
-    by_test : (b : Bool) → D w ≡ b → P w (column_list w D) → P (suc w) (column_list w D ++ (if b then w ∷ [] else []))
+    by_test : (b : Bool) → D w ≡ b → P w (column_list w D) → P (suc w) (column_list w D ++ (when b then w ∷ [] else []))
     by_test true e h = with w (column_list w D) e h
     by_test false e h = rw (append-nil (column_list w D)) (without w (column_list w D) e h)
 

@@ -5,7 +5,7 @@ use mathlib.Core.List.{List, [], ◌∷◌, ◌++◌}
 use Prim.Native.Nat.{ℕ}
 use lib.Dec.{eqb}
 use borrow.Author.Tests.{eqb-true}
-use Rattle.laws.specs.Lists.{if◌then◌else◌, null}
+use Rattle.laws.specs.Lists.{when◌then◌else◌, null}
 use Rattle.laws.proofs.Tests.{true_false}
 use Rattle.laws.proofs.EachMember.{Each}
 use Rattle.text.specs.Numbers.{comma, into_first, parts}
@@ -35,7 +35,7 @@ unfolding parts
 parts_null [] = refl
 parts_null (b ∷ l) = by_test (eqb b comma) (parts l)
   where
-    by_test : (t : Bool) (ls : List (List ℕ)) → null (if t then [] ∷ ls else into_first b ls) ≡ false
+    by_test : (t : Bool) (ls : List (List ℕ)) → null (when t then [] ∷ ls else into_first b ls) ≡ false
     by_test true ls = refl
     by_test false [] = refl
     by_test false (m ∷ ls) = refl
@@ -47,7 +47,7 @@ joined_parts [] = refl
 joined_parts (b ∷ l) = by_test (eqb b comma) refl (parts l) (parts_null l) (joined_parts l)
   where
     by_test : (t : Bool) → eqb b comma ≡ t → (ls : List (List ℕ)) → null ls ≡ false → joined ls ≡ l
-        → joined (if t then [] ∷ ls else into_first b ls) ≡ b ∷ l
+        → joined (when t then [] ∷ ls else into_first b ls) ≡ b ∷ l
     by_test t e [] h j = true_false h
     by_test true e (m ∷ ls) h j = rw (eqb-true b comma e) (ap (λ r. comma ∷ r) j)
     by_test false e (m ∷ []) h j = ap (λ r. b ∷ r) j

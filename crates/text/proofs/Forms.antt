@@ -7,7 +7,7 @@ use Prim.Native.Nat.{ℕ}
 use Prim.Native.String.{String}
 use lib.Dec.{eqb}
 use borrow.Author.Tests.{eqb-true}
-use Rattle.laws.specs.Lists.{if◌then◌else◌, null, every}
+use Rattle.laws.specs.Lists.{when◌then◌else◌, null, every}
 use Rattle.laws.proofs.Tests.{true_false, eqb_self, not-false}
 use Rattle.laws.proofs.Options.{some_inj, none_some}
 use Rattle.laws.proofs.EachMember.{each_map, each_append, every_each, Some, first, later, both_true, kept}
@@ -28,7 +28,7 @@ key_after [] l m e = some_inj e
 key_after (k ∷ key) [] m e = none_some e
 key_after (k ∷ key) (b ∷ l) m e = by_test (eqb k b) refl (key_after key l m) e
   where
-    by_test : (t : Bool) → eqb k b ≡ t → (after key l ≡ some m → l ≡ key ++ m) → (if t then after key l else none) ≡ some m → b ∷ l ≡ k ∷ (key ++ m)
+    by_test : (t : Bool) → eqb k b ≡ t → (after key l ≡ some m → l ≡ key ++ m) → (when t then after key l else none) ≡ some m → b ∷ l ≡ k ∷ (key ++ m)
     by_test true q f e = rw (eqb-true k b q, f e)
     by_test false q f e = none_some e
 
@@ -45,7 +45,7 @@ other_key (k ∷ key) [] l e = true_false (sym e)
 other_key (k ∷ key) (b ∷ other) l e = by_test (eqb k b) (other_key key other l) e
   where
     by_test : (t : Bool) → (apart key other ≡ true → after key (other ++ l) ≡ none) → not t || apart key other ≡ true
-        → (if t then after key (other ++ l) else none) ≡ none
+        → (when t then after key (other ++ l) else none) ≡ none
     by_test true f e = f e
     by_test false f e = refl
 

@@ -10,7 +10,7 @@ use native.Mathlib.Omega.{arith}
 use lib.Dec.{eqb, leb, ltb}
 use lib.ListN.{length, take, drop}
 use borrow.Author.Tests.{ltb-true, ltb-false}
-use Rattle.laws.specs.Lists.{if◌then◌else◌, every, null}
+use Rattle.laws.specs.Lists.{when◌then◌else◌, every, null}
 use Rattle.laws.specs.Options.{mapped, present, ◌then◌}
 use Rattle.laws.proofs.Tests.{same?}
 use Rattle.laws.proofs.Options.{none_some}
@@ -30,7 +30,7 @@ word_same (k ∷ w) [] h = refl
 word_same (k ∷ w) (b ∷ l) h = by_test (eqb k b) (word_same w l (omega arith))
   where
     by_test : (t : Bool) → present (after w l) ≡ is_word w l
-        → present (if t then after w l else none) ≡ present (if_empty (tt {0}) (if t then after w l else none))
+        → present (when t then after w l else none) ≡ present (if_empty (tt {0}) (when t then after w l else none))
     by_test true e = e
     by_test false e = refl
 
@@ -41,7 +41,7 @@ word_other [] (b ∷ l) h = refl
 word_other (k ∷ w) [] h = refl
 word_other (k ∷ w) (b ∷ l) h = by_test (eqb k b) (word_other w l (λ e. h (ap suc e)))
   where
-    by_test : (t : Bool) → is_word w l ≡ false → present (if_empty (tt {0}) (if t then after w l else none)) ≡ false
+    by_test : (t : Bool) → is_word w l ≡ false → present (if_empty (tt {0}) (when t then after w l else none)) ≡ false
     by_test true e = e
     by_test false e = refl
 
@@ -105,7 +105,7 @@ number_comma : (l : List ℕ) → before comma l < length l → number l ≡ non
 unfolding number
 number_comma l h = rw (comma_bad l h) (by_test (not (null l)))
   where
-    by_test : (t : Bool) → (if t && false && not (is_zero l) && leb (value_from 0 l) max_number then some (value_from 0 l) else none) ≡ none
+    by_test : (t : Bool) → (when t && false && not (is_zero l) && leb (value_from 0 l) max_number then some (value_from 0 l) else none) ≡ none
     by_test true = refl
     by_test false = refl
 
@@ -203,11 +203,11 @@ numbers_behind_lem key l = by_case (after (bytes key) l)
     by_case none = refl
     by_case (some digits) = refl
 
-pub word_form_lem : {A : Type 0} (key : String) (a : A) (l : List ℕ) → by_form (word key a) l ≡ if is_word (bytes key) l then some a else none
+pub word_form_lem : {A : Type 0} (key : String) (a : A) (l : List ℕ) → by_form (word key a) l ≡ when is_word (bytes key) l then some a else none
 unfolding by_form
 word_form_lem key a l = by_case (after (bytes key) l)
   where
-    by_case : (o : Option (List ℕ)) → if_empty a o ≡ if present (if_empty (tt {0}) o) then some a else none
+    by_case : (o : Option (List ℕ)) → if_empty a o ≡ when present (if_empty (tt {0}) o) then some a else none
     by_case none = refl
     by_case (some []) = refl
     by_case (some (b ∷ m)) = refl

@@ -10,7 +10,7 @@ use lib.Dec.{eqb, leb}
 use lib.ListN.{length, take, drop, get_or, drop_of_length-le, length-drop}
 use lib.Seq.{drop-drop, take_all}
 use borrow.Author.Tests.{eq-eqb, ne_eqb, leb-true, leb-false}
-use Rattle.laws.specs.Lists.{if◌then◌else◌}
+use Rattle.laws.specs.Lists.{when◌then◌else◌}
 use Rattle.laws.specs.Options.{present}
 use Rattle.laws.proofs.Tests.{true_false, same?}
 use Rattle.laws.proofs.Fronts.{drop_next, if_either}
@@ -61,7 +61,7 @@ after_rest (k ∷ key) [] e = true_false (sym e)
 after_rest (k ∷ key) (b ∷ l) e = by_test (eqb k b) (after_rest key l) e
   where
     by_test : (t : Bool) → (present (after key l) ≡ true → after key l ≡ some (drop (length key) l))
-        → present (if t then after key l else none) ≡ true → (if t then after key l else none) ≡ some (drop (length key) l)
+        → present (when t then after key l else none) ≡ true → (when t then after key l else none) ≡ some (drop (length key) l)
     by_test true f e = f e
     by_test false f e = true_false (sym e)
 

@@ -8,7 +8,7 @@ use native.Mathlib.Omega.{arith}
 use lib.Dec.{leb}
 use lib.ListN.{length, get_or}
 use borrow.Author.Tests.{le-leb, lt-leb, eq-eqb, ne_eqb}
-use Rattle.laws.specs.Lists.{if◌then◌else◌, every, null}
+use Rattle.laws.specs.Lists.{when◌then◌else◌, every, null}
 use Rattle.text.specs.Numbers.{max_number, is_digit, is_zero, value_from, number}
 use Rattle.text.specs.Readings.{value_in}
 
@@ -36,7 +36,7 @@ pub value_over : (n : ℕ) (l : List ℕ) → max_number < n → value_in n l �
 unfolding value_in
 value_over n l h = rw (lt-leb (value_from n l) max_number (omega (arith, value_grows n l))) (no_digits (every is_digit l) (value_from n l))
   where
-    no_digits : (b : Bool) (v : ℕ) → (if b && false then some v else none) ≡ none
+    no_digits : (b : Bool) (v : ℕ) → (when b && false then some v else none) ≡ none
     no_digits true v = refl
     no_digits false v = refl
 
@@ -53,7 +53,7 @@ number_zero [] h e = let z : ⊥ = omega arith in absurd z
 number_zero (b ∷ []) h e = let z : ⊥ = omega arith in absurd z
 number_zero (b ∷ (c ∷ l)) h e = rw (eq-eqb b 48 e) (by_tests_lem (every is_digit (b ∷ (c ∷ l))) (leb (value_from 0 (b ∷ (c ∷ l))) max_number) (value_from 0 (b ∷ (c ∷ l))))
   where
-    by_tests_lem : (t u : Bool) (v : ℕ) → (if true && t && false && u then some v else none) ≡ none
+    by_tests_lem : (t u : Bool) (v : ℕ) → (when true && t && false && u then some v else none) ≡ none
     by_tests_lem true u v = refl
     by_tests_lem false u v = refl
 
@@ -61,7 +61,7 @@ number_value : (l : List ℕ) → null l ≡ false → is_zero l ≡ false → n
 unfolding number value_in
 number_value l e z = rw (e, z) (by_tests_lem (every is_digit l) (leb (value_from 0 l) max_number) (value_from 0 l))
   where
-    by_tests_lem : (t u : Bool) (v : ℕ) → (if true && t && true && u then some v else none) ≡ (if t && u then some v else none)
+    by_tests_lem : (t u : Bool) (v : ℕ) → (when true && t && true && u then some v else none) ≡ (when t && u then some v else none)
     by_tests_lem true u v = refl
     by_tests_lem false u v = refl
 

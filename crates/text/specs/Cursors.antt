@@ -1,7 +1,7 @@
 -- A place in a text as the code holds it, and a due line read there. A cursor stands for what is left of the text (`Rest`).
 use Rattle.std.specs.Prelude.{List, ℕ, ◌+◌, ◌-◌, ◌≤◌, leb, ltb, length, take, drop}
 use Rattle.std.proofs.Math.Option.{Option, some, none}
-use Rattle.laws.specs.Lists.{if◌then◌else◌}
+use Rattle.laws.specs.Lists.{when◌then◌else◌}
 use Rattle.laws.specs.Options.{mapped}
 use Rattle.text.specs.declared.line_reader.Cursor.{Cursor}
 use Rattle.text.specs.declared.line_reader.Due.{Due}
@@ -34,7 +34,7 @@ behind_line c end = record { at = end + 1; line = c.line + 1 }
 -- the line at a cursor, by its form, and the cursor behind it; none where it is off the form or isn't there
 unfoldable pub due_line : {A : Type 0} → (List ℕ → Option A) → List ℕ → Cursor → Option (A × Cursor)
 due_line form text c =
-    if ltb (line_end text c) (length text)
+    when ltb (line_end text c) (length text)
     then mapped (λ a. (a, behind_line c (line_end text c))) (form (take (line_end text c - c.at) (drop c.at text)))
     else none
 
@@ -48,7 +48,7 @@ count_reply (some p) = count.Count p.0 p.1.at
 
 -- a word, and a key with a number behind it, by their bytes
 abbrev pub word_form : List ℕ → List ℕ → Option (Unit {0})
-word_form s l = if is_word s l then some tt else none
+word_form s l = when is_word s l then some tt else none
 
 abbrev pub count_form : List ℕ → ℕ → List ℕ → Option ℕ
 count_form key most l = in_range (λ n. leb n most) (if_one (λ n. n) (numbers_behind key l))

@@ -3,7 +3,7 @@ use Rattle.std.specs.Prelude.{Bool, true, false, not, ◌&&◌, List, [], ◌∷
 use Rattle.std.proofs.Math.Option.{Option, some, none}
 use Prim.Native.Char.{code}
 use Prim.Native.String.{String, [] as end, ◌∷◌ as ◌then◌}
-use Rattle.laws.specs.Lists.{if◌then◌else◌, every, null}
+use Rattle.laws.specs.Lists.{when◌then◌else◌, every, null}
 
 -- "ASCII": the bytes of a word
 unfoldable pub bytes : String → List ℕ
@@ -37,7 +37,7 @@ is_zero (b ∷ (c ∷ l)) = eqb b 48
 -- "Numbers are decimal without leading zeros; one outside its range is off the form"
 unfoldable pub number : List ℕ → Option ℕ
 number l =
-    if not (null l) && every is_digit l && not (is_zero l) && leb (value_from 0 l) max_number
+    when not (null l) && every is_digit l && not (is_zero l) && leb (value_from 0 l) max_number
     then some (value_from 0 l) else none
 
 -- the digits of n before those of tail
@@ -56,7 +56,7 @@ into_first b (l ∷ ls) = (b ∷ l) ∷ ls
 
 unfoldable pub parts : List ℕ → List (List ℕ)
 parts [] = [] ∷ []
-parts (b ∷ l) = if eqb b comma then [] ∷ parts l else into_first b (parts l)
+parts (b ∷ l) = when eqb b comma then [] ∷ parts l else into_first b (parts l)
 
 -- each part read, or none where one is off the form
 unfoldable pub read_all : List (List ℕ) → Option (List ℕ)

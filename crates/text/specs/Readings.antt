@@ -1,7 +1,7 @@
 -- What the readers of a text's parts reply, as the definitions have it.
 use Rattle.std.specs.Prelude.{Bool, ◌&&◌, List, [], ◌∷◌, ℕ, suc, eqb, leb}
 use Rattle.std.proofs.Math.Option.{Option, some, none}
-use Rattle.laws.specs.Lists.{if◌then◌else◌, every}
+use Rattle.laws.specs.Lists.{when◌then◌else◌, every}
 use Rattle.laws.specs.Options.{present, ◌then◌}
 use Rattle.text.specs.declared.number_reader.ReadNumber.{ReadNumber}
 use Rattle.text.specs.declared.number_reader.ReadNumber.TheVariants.{Value, Bad}
@@ -16,7 +16,7 @@ number_reply (some n) = Value n
 
 -- the value of digits that follow those of value n, leading zeros or not
 unfoldable pub value_in : ℕ → List ℕ → Option ℕ
-value_in n l = if every is_digit l && leb (value_from n l) max_number then some (value_from n l) else none
+value_in n l = when every is_digit l && leb (value_from n l) max_number then some (value_from n l) else none
 
 -- two numbers
 abbrev pub paired : ℕ → ℕ → ℕ × ℕ
@@ -33,7 +33,7 @@ is_word s l = present (if_empty (tt {0}) (after s l))
 -- how many bytes stand before the first b
 unfoldable pub before : ℕ → List ℕ → ℕ
 before b [] = 0
-before b (c ∷ l) = if eqb c b then 0 else suc (before b l)
+before b (c ∷ l) = when eqb c b then 0 else suc (before b l)
 
 -- the numbers behind a key, the key as its bytes
 abbrev pub numbers_behind : List ℕ → List ℕ → Option (List ℕ)

@@ -7,7 +7,7 @@ use native.Mathlib.Numerals.{add-one}
 use borrow.Author.Tests.{lt-ltb}
 use lib.Dec.{ltb}
 use lib.ListN.{get_or}
-use Rattle.laws.specs.Lists.{if◌then◌else◌, null, sift, tabulate}
+use Rattle.laws.specs.Lists.{when◌then◌else◌, null, sift, tabulate}
 use Rattle.laws.proofs.Lists.{sift_append}
 use Rattle.laws.proofs.Tabulated.{get_d_tabulate}
 use Rattle.laws.proofs.EachMember.{Each, each_map}
@@ -23,22 +23,22 @@ pub column_read : (w : ℕ) (s : Columns) (c : ℕ) {b : Bool} → c < w → get
 column_read w s c h e = rw (lt-ltb c w h) e
 
 module _ (D : Cols) (n : ℕ) where
-  more_columns : column_list (n + 1) D ≡ column_list n D ++ (if D n then n ∷ [] else [])
+  more_columns : column_list (n + 1) D ≡ column_list n D ++ (when D n then n ∷ [] else [])
   unfolding sift tabulate
   more_columns = ap (λ k. column_list k D) (add-one n) ∙ sift_append D (tabulate (λ c. c) n) (n ∷ [])
 
   pub columns_with : D n ≡ true → column_list (n + 1) D ≡ column_list n D ++ (n ∷ [])
-  columns_with e = more_columns ∙ ap (λ b. column_list n D ++ (if b then n ∷ [] else [])) e
+  columns_with e = more_columns ∙ ap (λ b. column_list n D ++ (when b then n ∷ [] else [])) e
 
   pub columns_without : D n ≡ false → column_list (n + 1) D ≡ column_list n D
-  columns_without e = more_columns ∙ ap (λ b. column_list n D ++ (if b then n ∷ [] else [])) e ∙ append-nil (column_list n D)
+  columns_without e = more_columns ∙ ap (λ b. column_list n D ++ (when b then n ∷ [] else [])) e ∙ append-nil (column_list n D)
 
 null_last : (l : List ℕ) (n : ℕ) → null (l ++ (n ∷ [])) ≡ false
 null_last [] n = refl
 null_last (a ∷ l) n = refl
 
 -- a number behind others: a comma before it, if there are others
-comma_more : (l : List ℕ) (n : ℕ) → comma_digits l ++ (if null l then digits n else comma ∷ digits n) ≡ comma_digits (l ++ (n ∷ []))
+comma_more : (l : List ℕ) (n : ℕ) → comma_digits l ++ (when null l then digits n else comma ∷ digits n) ≡ comma_digits (l ++ (n ∷ []))
 unfolding comma_digits
 comma_more [] n = refl
 comma_more (a ∷ []) n = refl
@@ -56,10 +56,10 @@ null_map f (a ∷ l) = refl
 -- one more column's value
 module _ (f : ℕ → ℕ) (D : Cols) (n : ℕ) (first : Bool) where
   pub value_there : D n ≡ true → first ≡ null (column_list n D)
-      → comma_digits (map f (column_list n D)) ++ (if first then digits (f n) else comma ∷ digits (f n)) ≡ comma_digits (map f (column_list (n + 1) D))
+      → comma_digits (map f (column_list n D)) ++ (when first then digits (f n) else comma ∷ digits (f n)) ≡ comma_digits (map f (column_list (n + 1) D))
   value_there e h =
       let l : List ℕ = column_list n D in
-      ap (λ b. comma_digits (map f l) ++ (if b then digits (f n) else comma ∷ digits (f n))) (h ∙ sym (null_map f l))
+      ap (λ b. comma_digits (map f l) ++ (when b then digits (f n) else comma ∷ digits (f n))) (h ∙ sym (null_map f l))
       ∙ comma_more (map f l) (f n) ∙ ap comma_digits (sym (map_snoc f l n) ∙ ap (map f) (sym (columns_with D n e)))
 
   pub not_first : D n ≡ true → false ≡ null (column_list (n + 1) D)

@@ -1,7 +1,7 @@
 // Writing an answer's text into a lent slice. It is measured first: nothing is written where the slice is short.
 ghost use Rattle.std.specs.Prelude.{◌≡◌, ◌+◌, ◌≤◌, min, length};
 ghost use mathlib.Core.List.{◌∷◌, ◌++◌, map, flat_map};
-ghost use Rattle.laws.specs.Lists.{if◌then◌else◌, tabulate};
+ghost use Rattle.laws.specs.Lists.{when◌then◌else◌, tabulate};
 ghost use Rattle.relation.specs.Rows.{columns as width, slot, cols_of, rows_of};
 ghost use Rattle.text.specs.Numbers.{bytes, comma, digits, comma_digits};
 ghost use Rattle.text.specs.Texts.{line_text, column_list, answer_text};
@@ -20,7 +20,7 @@ fn entry(values: &[u32], c: usize) -> u32
 }
 
 fn put_value(first: bool, n: usize, at: usize, store: bool, out: &mut [u8]) -> usize
-    ensures { Puts store (if first then digits n else comma ∷ digits n) at out.old result out.new }
+    ensures { Puts store (when first then digits n else comma ∷ digits n) at out.old result out.new }
 {
     if first {
         return put_number(n, at, store, out);

@@ -3,7 +3,7 @@ use mathlib.Core.Path.{◌≡◌, ap, sym, ◌∙◌}
 use mathlib.Core.Bool.{Bool, true, false}
 use mathlib.Core.Option.{Option, some, none}
 use mathlib.Core.List.{List}
-use Rattle.laws.specs.Lists.{if◌then◌else◌}
+use Rattle.laws.specs.Lists.{when◌then◌else◌}
 use Rattle.relation.specs.Rows.{columns}
 use Rattle.query.specs.declared.Node.{Node}
 use Rattle.query.specs.Lines.{on_form}
@@ -29,10 +29,10 @@ returns-in_default c =
     replied l none (node_none (by_forms node_forms l) (sym c.in_default.is ∙ c.read_form.ensures))
 
 tested : (c : After-on_form) (b : Bool) → c.on_form.result ≡ b
-    → node_reply (if b then some c.in-Node.n else none) ≡ node_reply (node_line columns c.args.line.now)
+    → node_reply (when b then some c.in-Node.n else none) ≡ node_reply (node_line columns c.args.line.now)
 tested c b e =
     let l : List ℕ = c.args.line.now in
-    ap (λ t. node_reply (if t then some c.in-Node.n else none)) (sym e ∙ c.on_form.ensures)
+    ap (λ t. node_reply (when t then some c.in-Node.n else none)) (sym e ∙ c.on_form.ensures)
     ∙ replied l (some c.in-Node.n) (node_some (by_forms node_forms l) c.in-Node.n (sym c.in-Node.is ∙ c.read_form.ensures))
 
 pub returns-then-on_form : goal.returns-then-on_form

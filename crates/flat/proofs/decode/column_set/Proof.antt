@@ -10,7 +10,7 @@ use mathlib.Core.Bool.{Bool, true, false}
 use mathlib.Core.List.{List}
 use lib.ListN.{length}
 use lib.Dec.{eqb}
-use Rattle.laws.specs.Lists.{if◌then◌else◌}
+use Rattle.laws.specs.Lists.{when◌then◌else◌}
 use Rattle.laws.proofs.Indexed.{Written, written_none, written_more, written_all}
 use Rattle.laws.proofs.Tabulated.{length_tabulate}
 use Rattle.algebra.specs.Columns.{no_cols}
@@ -50,11 +50,11 @@ module _ (bits c rest : ℕ) (set : List Bool) (last : c ≡ columns) (e : rest 
   above = e ∙ ap (λ n. bits / 2 ^ n) last
 
   fits : rest ≡ 0 → ◌≡◌ {A = Columns} (record { has = set }) (column_set columns bits)
-  fits h = all_read ∙ sym (ap (λ t. if t then columns_of columns (bit bits) else columns_of columns no_cols) (eq-eqb (bits / 2 ^ columns) 0 (sym above ∙ h)))
+  fits h = all_read ∙ sym (ap (λ t. when t then columns_of columns (bit bits) else columns_of columns no_cols) (eq-eqb (bits / 2 ^ columns) 0 (sym above ∙ h)))
 
   too_high : (rest ≡ 0 → ⊥) → columns_of columns no_cols ≡ column_set columns bits
   too_high h =
-      sym (ap (λ t. if t then columns_of columns (bit bits) else columns_of columns no_cols) (ne_eqb (bits / 2 ^ columns) 0 (λ z. h (above ∙ z))))
+      sym (ap (λ t. when t then columns_of columns (bit bits) else columns_of columns no_cols) (ne_eqb (bits / 2 ^ columns) 0 (λ z. h (above ∙ z))))
 
 returns : tie.Need-returns invariant-loop decreases-loop
 returns c =

@@ -6,7 +6,7 @@ use Prim.Native.Nat.{ℕ, ◌≤◌, ◌<◌, ◌-◌, ◌+◌, ◌*◌, ◌^◌
 use mathlib.Core.Path.{◌≡◌, refl, ap, sym, ◌∙◌}
 use mathlib.Core.Bool.{Bool, false, ◌&&◌}
 use lib.ListN.{get_or}
-use Rattle.laws.specs.Lists.{if◌then◌else◌}
+use Rattle.laws.specs.Lists.{when◌then◌else◌}
 use Rattle.relation.specs.Rows.{columns, cols_of}
 use Rattle.flat.specs.Flat.{bit_set}
 use Rattle.flat.proofs.BitSets.{if_below, power_below, power_more, bits_none, bits_more, bits_below}
@@ -48,9 +48,9 @@ loop_again c =
       omega arith,
       ap (λ n. n * 2) l.loop.invariant.1 ∙ power_more i,
       ap (λ n. l.loop.bits + n) c.worth_if.ensures
-          ∙ ap (λ n. l.loop.bits + (if get_or s.has i false then n else 0)) l.loop.invariant.1
-          ∙ ap (λ n. n + (if get_or s.has i false then 2 ^ i else 0)) l.loop.invariant.2
-          ∙ ap (λ b. bit_set i (cols_of columns s) + (if b && get_or s.has i false then 2 ^ i else 0)) (sym (lt-ltb i columns (omega arith)))
+          ∙ ap (λ n. l.loop.bits + (when get_or s.has i false then n else 0)) l.loop.invariant.1
+          ∙ ap (λ n. n + (when get_or s.has i false then 2 ^ i else 0)) l.loop.invariant.2
+          ∙ ap (λ b. bit_set i (cols_of columns s) + (when b && get_or s.has i false then 2 ^ i else 0)) (sym (lt-ltb i columns (omega arith)))
           ∙ bits_more (cols_of columns s) i,
     )
 

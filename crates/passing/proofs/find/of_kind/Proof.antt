@@ -2,14 +2,14 @@
 use borrow.Author.Tests.{eq-eqb, ne_eqb}
 use mathlib.Core.Path.{ap, sym}
 use mathlib.Core.Bool.{Bool}
-use Rattle.laws.specs.Lists.{if◌then◌else◌}
+use Rattle.laws.specs.Lists.{when◌then◌else◌}
 use Rattle.passing.specs.declared.Passed.{Passed}
 use Rattle.passing.specs.declared.Passed.TheVariants.{Nothing}
 use Rattle.passing.proofs.find.of_kind.Statement.{statement}
 use Rattle.passing.proofs.find.of_kind.Tie as tie
 
 abbrev pick : Passed → Bool → Passed
-pick m b = if b then m else Nothing
+pick m b = when b then m else Nothing
 
 returns : tie.Need-returns
 returns c = ap (pick c.before.args.found) (sym (eq-eqb _ _ c.if1.true))

@@ -4,7 +4,7 @@ use borrow.Author.Tests.{eq-eqb, ne_eqb}
 use mathlib.Core.Path.{ap, sym, ◌∙◌}
 use mathlib.Core.Bool.{Bool}
 use lib.Dec.{eqb}
-use Rattle.laws.specs.Lists.{if◌then◌else◌}
+use Rattle.laws.specs.Lists.{when◌then◌else◌}
 use Rattle.passing.specs.declared.Passed.{Passed}
 use Rattle.passing.specs.declared.Passed.TheVariants.{Nothing, PastLeft, PastRight}
 use Rattle.passing.specs.Passing.{pair_passed}
@@ -13,7 +13,7 @@ use Rattle.passing.proofs.find.pair_passed.Tie as tie
 
 -- a join: kind 8 first
 abbrev join : tie.Start → Bool → Passed
-join s b = if b then PastLeft s.args.condition else if eqb s.args.kind 9 then PastRight s.args.condition else Nothing
+join s b = when b then PastLeft s.args.condition else when eqb s.args.kind 9 then PastRight s.args.condition else Nothing
 
 returns : tie.Need-returns
 returns c =

@@ -2,7 +2,7 @@
 use Prim.Native.Nat.{ℕ}
 use mathlib.Core.Path.{◌≡◌, ap, sym, ◌∙◌}
 use mathlib.Core.Bool.{Bool, false}
-use Rattle.laws.specs.Lists.{if◌then◌else◌}
+use Rattle.laws.specs.Lists.{when◌then◌else◌}
 use Rattle.algebra.specs.Columns.{Cols, no_cols}
 use Rattle.algebra.proofs.Narrow.{below_none}
 use Rattle.relation.specs.Rows.{columns, cols_of}
@@ -14,8 +14,8 @@ use Rattle.rewrite.proofs.path.operand.Goals as goal
 
 -- by what the test of the path says
 by_test : (facts : Facts) (v i : ℕ) {b : Bool} → b ≡ on_path facts v i
-    → (λ e. if b then false else cols_of columns (columns_at facts i) e) ≡ operand_at facts v i
-by_test facts v i f = ap {B = Cols} (λ (b : Bool) (e : ℕ). if b then false else cols_of columns (columns_at facts i) e) f
+    → (λ e. when b then false else cols_of columns (columns_at facts i) e) ≡ operand_at facts v i
+by_test facts v i f = ap {B = Cols} (λ (b : Bool) (e : ℕ). when b then false else cols_of columns (columns_at facts i) e) f
 
 pub returns-then-on_path : goal.returns-then-on_path
 returns-then-on_path c =

@@ -4,7 +4,7 @@ use Prim.Native.Nat.{ℕ}
 use mathlib.Core.Path.{◌≡◌, ap, sym, ◌∙◌}
 use mathlib.Core.Bool.{Bool, true, false}
 use lib.ListN.{length}
-use Rattle.laws.specs.Lists.{if◌then◌else◌}
+use Rattle.laws.specs.Lists.{when◌then◌else◌}
 use Rattle.algebra.specs.Columns.{Cols, both}
 use Rattle.relation.specs.declared.Columns.{Columns}
 use Rattle.relation.specs.Rows.{columns, cols_of, columns_of}
@@ -23,11 +23,11 @@ size : (c : Start) → length c.args.used.has ≡ columns
 size c = search rules
 
 -- by what the test of the path says
-off : {b : Bool} (D : Cols) → b ≡ false → (e : ℕ) → (if b then D e else false) ≡ false
+off : {b : Bool} (D : Cols) → b ≡ false → (e : ℕ) → (when b then D e else false) ≡ false
 off D f e = rw f
 
-on : (s : Columns) {b : Bool} (D : Cols) → b ≡ true → columns_of columns (both (cols_of columns s) D) ≡ columns_of columns (both (cols_of columns s) (λ e. if b then D e else false))
-on s D f = ap (λ (b : Bool). columns_of columns (both (cols_of columns s) (λ e. if b then D e else false))) (sym f)
+on : (s : Columns) {b : Bool} (D : Cols) → b ≡ true → columns_of columns (both (cols_of columns s) D) ≡ columns_of columns (both (cols_of columns s) (λ e. when b then D e else false))
+on s D f = ap (λ (b : Bool). columns_of columns (both (cols_of columns s) (λ e. when b then D e else false))) (sym f)
 
 pub returns-then-not-on_path : goal.returns-then-not-on_path
 returns-then-not-on_path c =

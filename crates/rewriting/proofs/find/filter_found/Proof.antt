@@ -4,7 +4,7 @@ use Prim.Native.Nat.{ℕ}
 use mathlib.Core.Path.{ap, sym, ◌∙◌}
 use mathlib.Core.Bool.{Bool}
 use borrow.Author.Tests.{eq-eqb, ne_eqb}
-use Rattle.laws.specs.Lists.{if◌then◌else◌}
+use Rattle.laws.specs.Lists.{when◌then◌else◌}
 use Rattle.matching.specs.declared.Found.{Found}
 use Rattle.matching.specs.declared.Found.TheVariants.{Nothing, FilterFix}
 use Rattle.matching.specs.Found.{over_fix}
@@ -12,7 +12,7 @@ use Rattle.rewriting.proofs.find.filter_found.Statement.{statement}
 use Rattle.rewriting.proofs.find.filter_found.Tie as tie
 
 abbrev pick : Found → Bool → Found
-pick m b = if b then m else Nothing
+pick m b = when b then m else Nothing
 
 returns : tie.Need-returns
 returns c = let a = c.before.args in ap (pick _) (sym (ne_eqb a.kind 1 c.if1.true))

@@ -2,7 +2,7 @@
 use borrow.Author.Rules.{rules}
 use mathlib.Core.Path.{ap, sym, ◌∙◌}
 use mathlib.Core.Bool.{Bool}
-use Rattle.laws.specs.Lists.{if◌then◌else◌}
+use Rattle.laws.specs.Lists.{when◌then◌else◌}
 use Rattle.query.specs.Shape.{has_step}
 use Rattle.matching.specs.declared.Found.{Found}
 use Rattle.matching.specs.declared.Found.TheVariants.{Nothing}
@@ -10,7 +10,7 @@ use Rattle.rewriting.proofs.find.over_fix.Statement.{statement}
 use Rattle.rewriting.proofs.find.over_fix.Tie as tie
 
 abbrev pick : Found → Bool → Found
-pick m b = if b then m else Nothing
+pick m b = when b then m else Nothing
 
 returns : tie.Need-returns
 returns c =

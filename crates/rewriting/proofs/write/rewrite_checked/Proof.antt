@@ -6,7 +6,7 @@ use Prim.Native.Nat.{ℕ, ◌-◌, ◌≤◌, ◌<◌}
 use lib.Dec.{leb}
 use mathlib.Core.Path.{◌≡◌, ap, sym, ◌∙◌, subst}
 use mathlib.Core.Bool.{Bool}
-use Rattle.laws.specs.Lists.{if◌then◌else◌}
+use Rattle.laws.specs.Lists.{when◌then◌else◌}
 use Rattle.database.specs.Refusals.{Reply}
 use Rattle.query.specs.declared.Query.{Query}
 use Rattle.rewrite.specs.Rewrite.{rewritten}
@@ -29,10 +29,10 @@ module _ (s : tie.Start) where
   passed i = pass_reply s.args.limit s.args.query s.args.facts s.args.kind i
 
   of_six : s.args.kind ≤ 6 → (i : ℕ) → found i ≡ reply i
-  of_six h i = ap (λ (b : Bool). if b then found i else passed i) (sym (le-leb s.args.kind 6 h))
+  of_six h i = ap (λ (b : Bool). when b then found i else passed i) (sym (le-leb s.args.kind 6 h))
 
   of_more : 6 < s.args.kind → (i : ℕ) → passed i ≡ reply i
-  of_more h i = ap (λ (b : Bool). if b then found i else passed i) (sym (lt-leb s.args.kind 6 h))
+  of_more h i = ap (λ (b : Bool). when b then found i else passed i) (sym (lt-leb s.args.kind 6 h))
 
 returns : tie.Need-returns
 returns c =

@@ -4,7 +4,7 @@ use mathlib.Core.Path.{◌≡◌, ap, sym, ◌∙◌}
 use mathlib.Core.Bool.{Bool, true, false}
 use mathlib.Core.Option.{Option, some, none}
 use mathlib.Core.List.{List}
-use Rattle.laws.specs.Lists.{if◌then◌else◌}
+use Rattle.laws.specs.Lists.{when◌then◌else◌}
 use borrow.Author.Tests.{not-true, not-false}
 use Rattle.relation.specs.declared.Row.{Row}
 use Rattle.relation.specs.Rows.{columns, ordered, is_less}
@@ -43,9 +43,9 @@ module _ (c : tie.After-read-values) where
 
   -- behind another row, by whether it is less
   next : read.good ≡ true → first ≡ false → (t : Bool) → t ≡ is_less (ordered above.slots read.row.slots)
-      → row_reply (if t then some read.row.slots else none) ≡ reply
+      → row_reply (when t then some read.row.slots else none) ≡ reply
   next g f t e =
-      ap (λ t. row_reply (if t then some read.row.slots else none)) e
+      ap (λ t. row_reply (when t then some read.row.slots else none)) e
       ∙ ap row_reply (sym (row_next columns cols first above line f read.row.slots (row_accepted read row c.read_values.ensures g)))
 
   held : read.good ≡ true → read ≡ row_reply (some read.row.slots)

@@ -5,7 +5,7 @@ use mathlib.Core.List.{List}
 use lib.ListN.{take, drop}
 use Rattle.laws.specs.Options.{mapped}
 use mathlib.Core.Bool.{Bool, true, false}
-use Rattle.laws.specs.Lists.{if◌then◌else◌}
+use Rattle.laws.specs.Lists.{when◌then◌else◌}
 use Rattle.text.specs.declared.line_reader.Cursor.{Cursor}
 use Rattle.text.specs.Cursors.{behind_line, due_line, word_form, word_reply}
 use Rattle.text.proofs.ReaderLawsDue.{due_missing, due_replied}
@@ -44,8 +44,8 @@ returns-then-text-end c =
     ap word_reply (sym (due_missing (word_form c.args.word.now) c.args.text.now c.args.c c.find-end.result c.find-end.ensures c.if-text-end.true))
 
 tested : (c : After-is_word) (b : Bool) → c.is_word.result ≡ b
-    → word_reply (mapped (λ a. (a, behind_line (cursor c.before.before) (end c.before.before))) (if b then some tt else none)) ≡ word_reply (due_line (form c.before.before) (text c.before.before) (cursor c.before.before))
-tested c b e = replied c.before.before (if b then some tt else none) (ap (λ t. if t then some tt else none) (sym c.is_word.ensures ∙ e))
+    → word_reply (mapped (λ a. (a, behind_line (cursor c.before.before) (end c.before.before))) (when b then some tt else none)) ≡ word_reply (due_line (form c.before.before) (text c.before.before) (cursor c.before.before))
+tested c b e = replied c.before.before (when b then some tt else none) (ap (λ t. when t then some tt else none) (sym c.is_word.ensures ∙ e))
 
 pub returns-then-is_word : goal.returns-then-is_word
 returns-then-is_word c = tested c.before.before.before true c.if-is_word.true

@@ -4,7 +4,7 @@ use mathlib.Core.Path.{◌≡◌, ap, sym, ◌∙◌}
 use mathlib.Core.Bool.{Bool, true, false}
 use mathlib.Core.Option.{Option, some, none}
 use lib.Dec.{leb}
-use Rattle.laws.specs.Lists.{if◌then◌else◌}
+use Rattle.laws.specs.Lists.{when◌then◌else◌}
 use Rattle.text.specs.Lines.{if_one, in_range}
 use Rattle.text.specs.Readings.{number_reply, numbers_behind}
 use Rattle.text.specs.Cursors.{count_form}
@@ -30,9 +30,9 @@ module _ (s : Start) where
   replied o e = ap (λ o. number_reply (in_range (λ n. leb n s.args.most) o)) (sym e)
 
 tested : (c : In-Value) (b : Bool) → leb c.in-Value.n c.args.most ≡ b
-    → number_reply (if b then some c.in-Value.n else none) ≡ number_reply (count_form c.args.key.now c.args.most c.args.line.now)
+    → number_reply (when b then some c.in-Value.n else none) ≡ number_reply (count_form c.args.key.now c.args.most c.args.line.now)
 tested c b e =
-    ap (λ t. number_reply (if t then some c.in-Value.n else none)) (sym e)
+    ap (λ t. number_reply (when t then some c.in-Value.n else none)) (sym e)
     ∙ replied c.before.before.before.before (some c.in-Value.n) (number_some (read c.before.before.before.before) c.in-Value.n (sym c.in-Value.is ∙ c.read_one.ensures))
 
 pub returns-in_default : goal.returns-in_default

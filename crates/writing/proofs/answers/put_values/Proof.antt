@@ -5,7 +5,7 @@ use Prim.Native.Nat.{ℕ, ◌≤◌, ◌-◌}
 use mathlib.Core.Path.{◌≡◌, refl, ap, sym, ◌∙◌}
 use mathlib.Core.Logic.{⊎_elim}
 use mathlib.Core.List.{◌∷◌, ◌++◌, map}
-use Rattle.laws.specs.Lists.{if◌then◌else◌, null, sift, tabulate}
+use Rattle.laws.specs.Lists.{when◌then◌else◌, null, sift, tabulate}
 use Rattle.relation.specs.Rows.{columns as width, slot, cols_of}
 use Rattle.text.specs.Numbers.{comma, digits, comma_digits}
 use Rattle.text.specs.Texts.{column_list}
@@ -39,7 +39,7 @@ loop_again c =
     (λ w. let e = column_read width args.t1 n (omega arith) w.0.taken in (
       omega arith,
       w.7 ∙ not_first f D n t.loop.first e,
-      puts_at w.8 w.6 (puts_as (ap (λ v. comma_digits (map f (column_list n D)) ++ (if t.loop.first then digits v else comma ∷ digits v)) w.1.ensures
+      puts_at w.8 w.6 (puts_as (ap (λ v. comma_digits (map f (column_list n D)) ++ (when t.loop.first then digits v else comma ∷ digits v)) w.1.ensures
           ∙ value_there f D n t.loop.first e inv.1) (puts_then inv.2 w.3.ensures)),
     ))
     (λ w. let e = columns_without D n (column_read width args.t1 n (omega arith) w.0.left) in
