@@ -109,12 +109,13 @@ pub extern "C" fn capeshard_panel_begin(
         × (out.new ≡ after flat_run (ordinary (begin_run_flat panel_limits.nodes query.now database.now store.now panel_limits.rows budget workspace.old out.old pause.old answer.old)) out.old)
         × (pause.new ≡ paused_after (begin_run_flat panel_limits.nodes query.now database.now store.now panel_limits.rows budget workspace.old out.old pause.old answer.old) pause.old) }
 {
+    let rows = PANEL_ROWS;
     capeshard_begin(
         query,
         database,
         store,
         PANEL_NODES,
-        PANEL_ROWS,
+        rows,
         budget,
         workspace,
         answer,
@@ -142,12 +143,13 @@ pub extern "C" fn capeshard_panel_resume(
         × (out.new ≡ after flat_run (ordinary (resume_flat panel_limits.nodes query.now database.now store.now panel_limits.rows budget workspace.old out.old pause.old answer.old)) out.old)
         × (pause.new ≡ paused_after (resume_flat panel_limits.nodes query.now database.now store.now panel_limits.rows budget workspace.old out.old pause.old answer.old) pause.old) }
 {
+    let rows = PANEL_ROWS;
     capeshard_resume(
         query,
         database,
         store,
         PANEL_NODES,
-        PANEL_ROWS,
+        rows,
         budget,
         workspace,
         answer,

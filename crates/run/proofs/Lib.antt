@@ -7,4 +7,7 @@ pub mod HandedOn
 pub mod Meaning
 pub mod Promised
 pub mod Outset
+pub mod PartAnswers
+pub mod PartBegan
+pub mod PartOutset
 pub mod TypedSpace

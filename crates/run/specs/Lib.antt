@@ -1,3 +1,4 @@
+pub mod Begins
 pub mod GoesOn
 pub mod Answered
 pub mod FixCount

@@ -2,3 +2,4 @@ pub mod Ascends
 pub mod Outcomes
 pub mod Runs
 pub mod RunLines
+pub mod LinesOn
