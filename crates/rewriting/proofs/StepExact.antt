@@ -12,7 +12,7 @@ use Rattle.relation.specs.Rows.{columns}
 use Rattle.database.specs.declared.Database.{Database}
 use Rattle.database.specs.declared.Refusal.TheVariants.{NoMatch}
 use Rattle.database.specs.Stored.{schema}
-use Rattle.database.specs.Refusals.{Reply, accepted, or_refuse, ◌>>=◌}
+use Rattle.database.specs.Refusals.{accepted, or_refuse, ◌>>=◌}
 use Rattle.query.specs.declared.Node.{Node}
 use Rattle.query.specs.declared.Query.{Query}
 use Rattle.query.specs.declared.Facts.{Facts}

@@ -27,7 +27,7 @@ returns-in-Digit c =
     c.with_digit.ensures ∙ ap (digit_next (schema columns c.args.database) c.args.named c.args.named.digit) e ∙ simp (inside 48 57 c.args.b h k)
 
 pub returns : goal.returns
-returns c = simp (no_digit c.args.b _ c.class_of.ensures c.match.keys2)
+returns c = simp (no_digit c.args.b _ c.class_of.ensures c.in_default.not-Digit)
 
 pub with_digit-requires : goal.with_digit-requires
 with_digit-requires c = let h = known c in omega (arith, h)

@@ -1,0 +1,32 @@
+use borrow.Author.Rules.{rules}
+use native.Mathlib.Omega.{arith}
+use mathlib.Core.Path.{ap, sym, ◌∙◌}
+use mathlib.Core.Bool.{true}
+use Rattle.relation.specs.Rows.{columns}
+use Rattle.database.specs.declared.Refusal.TheVariants.{ShortSlice}
+use Rattle.database.specs.declared.Verdict.TheVariants.{Accepted}
+use Rattle.text.specs.Texts.{table_entries}
+use Rattle.text.specs.Replies.{database_reply, load_tables, store_after}
+use Rattle.loading.specs.declared.database_reader.ReadText.{ReadText}
+use Rattle.loading.specs.Loading.{stores, read_entries, text_reply}
+use Rattle.loading.proofs.Stores.{stores_start}
+use Rattle.loading.proofs.TextWalks.{load_short, load_fits, refused_kept}
+use Rattle.loading.proofs.database_reader.store_rows.Goals as goal
+
+pub returns-then-store-size : goal.returns-then-store-size
+returns-then-store-size c =
+    let p = let e = load_short c.args.text.now c.args.store.now c.args.size c.requires c.if-store-size.true in
+    (c.refused_database.ensures ∙ ap (database_reply columns) (sym e), refused_kept c.args.store.now (load_tables columns c.args.text.now c.args.store.now) ShortSlice e) in record { value = p.0; store_after = p.1 }
+
+pub read_text-read-requires : goal.read_text-read-requires
+read_text-read-requires c _ =
+    record { value = c.requires.value; read = c.requires.read; fits = omega arith }
+
+pub returns : goal.returns
+returns c =
+    let p = let e = load_fits c.args.text.now c.args.store.now c.args.size c.requires c.if-store-size.false in (
+      ap (λ (t : ReadText). record { database = t.database; verdict = Accepted }) (c.read_text-read.ensures.0 ∙ ap text_reply c.requires.read)
+          ∙ ap (database_reply columns) (sym e),
+      c.read_text-read.ensures.1 ∙ ap (λ r. stores true 0 (read_entries table_entries r) c.args.store.now) c.requires.read ∙ stores_start (table_entries c.requires.value) c.args.store.now
+          ∙ ap (λ r. store_after r c.args.store.now) (sym e),
+    ) in record { value = p.0; store_after = p.1 }

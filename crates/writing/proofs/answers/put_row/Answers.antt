@@ -1,0 +1,8 @@
+-- `put_row` meets its contract: the key, the values and byte 10 one behind the other.
+use borrow.Author.Rules.{rules}
+use Rattle.output.proofs.Puts.{puts_then}
+use Rattle.writing.proofs.answers.put_row.Goals as goal
+
+pub returns : goal.returns
+returns c =
+    puts_then (puts_then c.put_bytes-first.ensures c.put_values-end.ensures) c.put_byte.ensures

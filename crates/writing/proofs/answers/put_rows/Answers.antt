@@ -1,0 +1,48 @@
+-- `put_rows` meets its contract: after i turns the lines of the first i rows are put.
+use borrow.Author.Rules.{rules}
+use native.Mathlib.Omega.{arith}
+use Prim.Native.Nat.{ℕ, min, ◌≤◌, ◌-◌, ◌*◌}
+use mathlib.Core.Path.{◌≡◌, refl, ap, sym, ◌∙◌}
+use mathlib.Core.List.{List, ◌++◌, map, flat_map}
+use lib.ListN.{length}
+use Rattle.laws.proofs.FlatMaps.{flat_map_none}
+use Rattle.relation.specs.declared.Columns.{Columns}
+use Rattle.relation.specs.Rows.{columns as width, Row, slot, cols_of, rows_of}
+use Rattle.text.specs.Numbers.{bytes, comma_digits}
+use Rattle.text.specs.Texts.{line_text, column_list}
+use Rattle.output.specs.Output.{Puts}
+use Rattle.output.proofs.Puts.{puts_none, puts_past, puts_then, puts_as, puts_length}
+use Rattle.writing.proofs.AnswerRows.{more_rows, rows_behind, row_values}
+use Rattle.writing.proofs.answers.put_rows.Invariants.{row_text_lem}
+use Rattle.writing.proofs.answers.put_rows.Goals as goal
+
+pub loop-r-init : goal.loop-r-init
+unfolding rows_of
+loop-r-init c = (omega arith, omega arith, puts_as (sym (flat_map_none _)) puts_none)
+
+-- past the end the other rows change nothing
+pub returns-then-out-next : goal.returns-then-out-next
+returns-then-out-next c =
+    puts_as (rows_behind (row_text_lem c.args.columns) width c.loop-r.r c.args.rows.now c.args.count c.loop-r.invariant.0)
+    (puts_then c.loop-r.invariant.2 (puts_past _ c.if-out-next.true))
+
+pub loop-r-preserved : goal.loop-r-preserved
+unfolding bytes
+loop-r-preserved c =
+    let i : ℕ = c.loop-r.r in
+    let rows : List ℕ = c.args.rows.now in
+    let text = row_text_lem c.args.columns in
+    let values = row_values width (cols_of width c.args.columns) i c.loop-r.from rows c.loop-r.invariant.1 in (
+      omega arith,
+      omega (arith, c.next_row-from.ensures),
+      puts_as (ap (λ v. flat_map text (rows_of width i rows) ++ line_text (bytes "row=" ++ comma_digits v)) values ∙ more_rows text width i rows)
+          (puts_then c.loop-r.invariant.2 c.put_row-next.ensures),
+    )
+
+pub returns : goal.returns
+returns c =
+    let e : c.loop-r.r ≡ c.args.count = omega arith in
+    puts_as (ap (λ n. flat_map (row_text_lem c.args.columns) (rows_of width n c.args.rows.now)) e) c.loop-r.invariant.2
+
+pub shape_of-out : goal.shape_of-out
+shape_of-out c = puts_length c.loop-r.invariant.2

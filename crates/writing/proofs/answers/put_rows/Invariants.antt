@@ -1,0 +1,24 @@
+use borrow.Author.Rules.{rules}
+use native.Mathlib.Omega.{arith}
+use Prim.Native.Nat.{ℕ, min, ◌≤◌, ◌-◌, ◌*◌}
+use mathlib.Core.Path.{◌≡◌, refl, ap, sym, ◌∙◌}
+use mathlib.Core.List.{List, ◌++◌, map, flat_map}
+use lib.ListN.{length}
+use Rattle.laws.proofs.FlatMaps.{flat_map_none}
+use Rattle.relation.specs.declared.Columns.{Columns}
+use Rattle.relation.specs.Rows.{columns as width, Row, slot, cols_of, rows_of}
+use Rattle.text.specs.Numbers.{bytes, comma_digits}
+use Rattle.text.specs.Texts.{line_text, column_list}
+use Rattle.output.specs.Output.{Puts}
+use Rattle.output.proofs.Puts.{puts_none, puts_past, puts_then, puts_as, puts_length}
+use Rattle.writing.proofs.AnswerRows.{more_rows, rows_behind, row_values}
+use Rattle.writing.proofs.answers.put_rows.Given as goal
+
+abbrev pub row_text_lem : Columns → Row → List ℕ
+row_text_lem columns r = line_text (bytes "row=" ++ comma_digits (map (slot r) (column_list width (cols_of width columns))))
+
+abbrev pub invariant-loop-r : goal.invariant-loop-r
+invariant-loop-r l = (i ≤ l.count) × (l.r ≡ min (width * i) (length l.rows)) × Puts l.store (flat_map (row_text_lem l.columns) (rows_of width i l.rows)) l.at l.initial.out l.from l.next
+
+abbrev pub decreases-loop-r : goal.decreases-loop-r
+decreases-loop-r l = l.count - i
