@@ -123,6 +123,8 @@ no_one (due fs f) b h = due_no_one fs f (sign b) h
 no_one (ended k fs f p) b h = ended_no_one k fs f p (sign b) h
 
 same_names : (s : State) (x : Sign) → NotDigit x → names_behind s x ≡ names_read s
+same_names (due fs f) (Digit _) h = elim h [ ]
+same_names (ended k fs f p) (Digit _) h = elim h [ ]
 same_names (due fs f) Alternate h = refl
 same_names (due fs f) Follow h = refl
 same_names (due fs f) Invert h = refl

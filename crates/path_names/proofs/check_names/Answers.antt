@@ -1,8 +1,7 @@
 -- `check_names`: what is kept after i bytes of a path's text is the verdict of the names read.
 use mathlib.Core.Path.{refl, sym, subst}
-use Prim.Native.Nat.{◌+◌, ◌-◌, ◌≤◌}
+use Prim.Native.Nat.{◌+◌}
 use native.Mathlib.Omega.{arith}
-use lib.ListN.{length}
 use Rattle.relation.specs.Rows.{columns}
 use Rattle.database.specs.Stored.{schema}
 use Rattle.paths.specs.Reader.{start, path_limit}

@@ -1,5 +1,4 @@
 -- `end_columns` puts two columns into the empty set.
-use borrow.Author.Rules.{rules}
 use mathlib.Core.Path.{ap, ◌∙◌}
 use Prim.Native.Nat.{ℕ}
 use Rattle.algebra.specs.Columns.{no_cols, with}

@@ -1,5 +1,4 @@
 -- `with_digit` is the definition's two cases.
-use borrow.Author.Rules.{rules}
 use mathlib.Core.Path.{ap, ◌∙◌}
 use native.Mathlib.Omega.{arith}
 use Rattle.query.specs.Passes.{first_of}

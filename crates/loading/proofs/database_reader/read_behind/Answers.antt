@@ -1,4 +1,3 @@
-use borrow.Author.Rules.{rules}
 use Prim.Native.Nat.{ℕ}
 use mathlib.Core.Path.{◌≡◌, ◌∙◌, subst}
 use mathlib.Core.List.{List}
@@ -40,22 +39,12 @@ module _ (c : After-read_tables-read) where
       → Walks text w (tables_read text start.args.first start.args.count start.args.write store) (GoodTables read)
   walked w e =
       subst (λ w. Walks text w (tables_read text start.args.first start.args.count start.args.write store) (GoodTables read)) e
-      c.read_tables-read.ensures.0
+      c.read_tables-read.ensures.walks
 
 pub returns-in-Next : goal.returns-in-Next
 returns-in-Next c =
-    let p = let s = start c.before.before.before.before.before in
-    (
-      c.at_end.ensures
-          ∙ text_ended (text c.before.before.before.before.before) s.args.first s.args.count s.args.write (store c.before.before.before.before.before) c.in-Next.c (read c.before.before.before.before.before) (walked c.before.before.before.before.before _ c.in-Next.is),
-      c.read_tables-read.ensures.1 ∙ behind_stored (text c.before.before.before.before.before) s.args.first s.args.count s.args.write (store c.before.before.before.before.before) s.requires.2,
-    ) in record { value = p.0; store_after = p.1 }
+    let s = start c.before.before.before.before.before in record { value = c.at_end.ensures ∙ text_ended (text c.before.before.before.before.before) s.args.first s.args.count s.args.write (store c.before.before.before.before.before) c.in-Next.c (read c.before.before.before.before.before) (walked c.before.before.before.before.before _ c.in-Next.is); store_after = c.read_tables-read.ensures.store_after ∙ behind_stored (text c.before.before.before.before.before) s.args.first s.args.count s.args.write (store c.before.before.before.before.before) s.requires.2 }
 
 pub returns-in-Bad : goal.returns-in-Bad
 returns-in-Bad c =
-    let p = let s = start c.before.before.before.before.before in
-    (
-      c.refused_text.ensures
-          ∙ text_refused (text c.before.before.before.before.before) s.args.first s.args.count s.args.write (store c.before.before.before.before.before) (DatabaseForm c.in-Bad.line) (walked c.before.before.before.before.before _ c.in-Bad.is),
-      c.read_tables-read.ensures.1 ∙ behind_stored (text c.before.before.before.before.before) s.args.first s.args.count s.args.write (store c.before.before.before.before.before) s.requires.2,
-    ) in record { value = p.0; store_after = p.1 }
+    let s = start c.before.before.before.before.before in record { value = c.refused_text.ensures ∙ text_refused (text c.before.before.before.before.before) s.args.first s.args.count s.args.write (store c.before.before.before.before.before) (DatabaseForm c.in-Bad.line) (walked c.before.before.before.before.before _ c.in-Bad.is); store_after = c.read_tables-read.ensures.store_after ∙ behind_stored (text c.before.before.before.before.before) s.args.first s.args.count s.args.write (store c.before.before.before.before.before) s.requires.2 }

@@ -1,4 +1,3 @@
-use borrow.Author.Rules.{rules}
 use Prim.Native.Nat.{ℕ}
 use mathlib.Core.Path.{◌≡◌, ap, sym, ◌∙◌}
 use mathlib.Core.List.{List}
@@ -38,33 +37,24 @@ module _ (c : After-read_text-seen) where
   seen = c.read_text-seen.result
 
   judged : (v : Verdict) → seen.verdict ≡ v → v ≡ verdict (read_tables columns text)
-  judged v e = sym e ∙ ap (λ (t : ReadText). t.verdict) c.read_text-seen.ensures.0
+  judged v e = sym e ∙ ap (λ (t : ReadText). t.verdict) c.read_text-seen.ensures.value
 
 pub returns-then-text-eq0 : goal.returns-then-text-eq0
 returns-then-text-eq0 c =
-    let p = let e = load_empty c.args.text.now c.args.store.now c.if-text-eq0.true in (
-      ap (λ d. record { database = d; verdict = Accepted }) c.no_tables-database.ensures ∙ ap (database_reply columns) (sym e),
-      none_kept c.args.store.now (load_tables columns c.args.text.now c.args.store.now) (ap read_or e),
-    ) in record { value = p.0; store_after = p.1 }
+    let e = load_empty c.args.text.now c.args.store.now c.if-text-eq0.true in record { value = ap (λ d. record { database = d; verdict = Accepted }) c.no_tables-database.ensures ∙ ap (database_reply columns) (sym e); store_after = none_kept c.args.store.now (load_tables columns c.args.text.now c.args.store.now) (ap read_or e) }
 
 pub returns-in-Refused : goal.returns-in-Refused
 returns-in-Refused c =
-    let p = let e = load_bad (text c.before.before.before.before.before) (store c.before.before.before.before.before) c.if-text-eq0.false c.in-Refused.r (verdict_refused (read_tables columns (text c.before.before.before.before.before)) (judged c.before.before.before.before.before _ c.in-Refused.is)) in (
-      c.refused_database.ensures ∙ ap (database_reply columns) (sym e),
-      c.read_text-seen.ensures.1 ∙ refused_kept (store c.before.before.before.before.before) (load_tables columns (text c.before.before.before.before.before) (store c.before.before.before.before.before)) c.in-Refused.r e,
-    ) in record { value = p.0; store_after = p.1 }
+    let e = load_bad (text c.before.before.before.before.before) (store c.before.before.before.before.before) c.if-text-eq0.false c.in-Refused.r (verdict_refused (read_tables columns (text c.before.before.before.before.before)) (judged c.before.before.before.before.before _ c.in-Refused.is)) in record { value = c.refused_database.ensures ∙ ap (database_reply columns) (sym e); store_after = c.read_text-seen.ensures.store_after ∙ refused_kept (store c.before.before.before.before.before) (load_tables columns (text c.before.before.before.before.before) (store c.before.before.before.before.before)) c.in-Refused.r e }
 
 pub store_rows-requires : goal.store_rows-requires
 store_rows-requires c =
     let r = verdict_accepted (read_tables columns (text c.before.before.before.before.before)) (judged c.before.before.before.before.before _ c.in-Accepted.is) in
-    record { value = r.0; read = r.1; sized = ap (λ (t : ReadText). t.size) (c.read_text-seen.ensures.0 ∙ ap text_reply r.1) }
+    record { value = r.0; read = r.1; sized = ap (λ (t : ReadText). t.size) (c.read_text-seen.ensures.value ∙ ap text_reply r.1) }
 
 pub returns-in-Accepted : goal.returns-in-Accepted
 returns-in-Accepted c =
-    let p = (
-      c.store_rows.ensures.0 ∙ ap (λ l. database_reply columns (load_tables columns (text c.before.before.before.before.before.before.before.before) l)) c.read_text-seen.ensures.1,
-      c.store_rows.ensures.1 ∙ ap (λ l. store_after (load_tables columns (text c.before.before.before.before.before.before.before.before) l) l) c.read_text-seen.ensures.1,
-    ) in record { value = p.0; store_after = p.1 }
+    record { value = c.store_rows.ensures.value ∙ ap (λ l. database_reply columns (load_tables columns (text c.before.before.before.before.before.before.before.before) l)) c.read_text-seen.ensures.store_after; store_after = c.store_rows.ensures.store_after ∙ ap (λ l. store_after (load_tables columns (text c.before.before.before.before.before.before.before.before) l) l) c.read_text-seen.ensures.store_after }
 
 pub read_text-seen-requires : goal.read_text-seen-requires
 read_text-seen-requires c e = true_false (sym e)

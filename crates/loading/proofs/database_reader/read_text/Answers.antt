@@ -1,4 +1,3 @@
-use borrow.Author.Rules.{rules}
 use Prim.Native.Nat.{ℕ}
 use mathlib.Core.Path.{◌≡◌, ap, sym, ◌∙◌, subst}
 use mathlib.Core.List.{List}
@@ -42,23 +41,16 @@ module _ (c : After-read_opening) where
   behind o e = tables_opened text ∙ ap (behind_tables text) (sym opened ∙ e)
 
 pub read_behind-requires : goal.read_behind-requires
-read_behind-requires c =
-    (
-      opened_placed (bytes "tables=") table_limit (text c.before.before.before) c.in-Count.count c.in-Count.first (sym c.in-Count.is ∙ opened c.before.before.before),
-      opened_most (bytes "tables=") table_limit (text c.before.before.before) c.in-Count.count c.in-Count.first (sym c.in-Count.is ∙ opened c.before.before.before),
-      subst (MayStore table_entries (start c.before.before.before).args.write 0 (store c.before.before.before)) (behind c.before.before.before _ c.in-Count.is) (start c.before.before.before).requires,
-    )
+read_behind-requires c = (
+  opened_placed (bytes "tables=") table_limit (text c.before.before.before) c.in-Count.count c.in-Count.first (sym c.in-Count.is ∙ opened c.before.before.before),
+  opened_most (bytes "tables=") table_limit (text c.before.before.before) c.in-Count.count c.in-Count.first (sym c.in-Count.is ∙ opened c.before.before.before),
+  subst (MayStore table_entries (start c.before.before.before).args.write 0 (store c.before.before.before)) (behind c.before.before.before _ c.in-Count.is) (start c.before.before.before).requires,
+)
 
 pub returns-in-Count : goal.returns-in-Count
 returns-in-Count c =
-    let p = let e = sym (behind c.before.before.before.before.before.before _ c.in-Count.is) in (
-      c.read_behind.ensures.0 ∙ ap text_reply e,
-      c.read_behind.ensures.1 ∙ ap (λ r. stores (start c.before.before.before.before.before.before).args.write 0 (read_entries table_entries r) (store c.before.before.before.before.before.before)) e,
-    ) in record { value = p.0; store_after = p.1 }
+    let e = sym (behind c.before.before.before.before.before.before _ c.in-Count.is) in record { value = c.read_behind.ensures.value ∙ ap text_reply e; store_after = c.read_behind.ensures.store_after ∙ ap (λ r. stores (start c.before.before.before.before.before.before).args.write 0 (read_entries table_entries r) (store c.before.before.before.before.before.before)) e }
 
 pub returns-in-Bad : goal.returns-in-Bad
 returns-in-Bad c =
-    let p = let e = behind c.before.before.before _ c.in-Bad.is in (
-      c.refused_text.ensures ∙ ap text_reply (sym e),
-      stores_off table_entries (start c.before.before.before).args.write 0 (store c.before.before.before) (read_tables columns (text c.before.before.before)) (DatabaseForm c.in-Bad.line) e,
-    ) in record { value = p.0; store_after = p.1 }
+    let e = behind c.before.before.before _ c.in-Bad.is in record { value = c.refused_text.ensures ∙ ap text_reply (sym e); store_after = stores_off table_entries (start c.before.before.before).args.write 0 (store c.before.before.before) (read_tables columns (text c.before.before.before)) (DatabaseForm c.in-Bad.line) e }

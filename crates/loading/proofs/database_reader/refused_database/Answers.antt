@@ -1,4 +1,3 @@
-use borrow.Author.Rules.{rules}
 use mathlib.Core.Path.{ap}
 use Rattle.database.specs.declared.Verdict.TheVariants.{Refused}
 use Rattle.loading.proofs.database_reader.refused_database.Goals as goal

@@ -1,4 +1,3 @@
-use borrow.Author.Rules.{rules}
 use mathlib.Core.Path.{ap}
 use mathlib.Core.List.{flat_map}
 use Rattle.database.specs.declared.Verdict.TheVariants.{Refused}

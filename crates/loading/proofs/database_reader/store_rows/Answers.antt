@@ -1,4 +1,3 @@
-use borrow.Author.Rules.{rules}
 use native.Mathlib.Omega.{arith}
 use mathlib.Core.Path.{ap, sym, ◌∙◌}
 use mathlib.Core.Bool.{true}
@@ -15,8 +14,7 @@ use Rattle.loading.proofs.database_reader.store_rows.Goals as goal
 
 pub returns-then-store-size : goal.returns-then-store-size
 returns-then-store-size c =
-    let p = let e = load_short c.args.text.now c.args.store.now c.args.size c.requires c.if-store-size.true in
-    (c.refused_database.ensures ∙ ap (database_reply columns) (sym e), refused_kept c.args.store.now (load_tables columns c.args.text.now c.args.store.now) ShortSlice e) in record { value = p.0; store_after = p.1 }
+    let e = load_short c.args.text.now c.args.store.now c.args.size c.requires c.if-store-size.true in record { value = c.refused_database.ensures ∙ ap (database_reply columns) (sym e); store_after = refused_kept c.args.store.now (load_tables columns c.args.text.now c.args.store.now) ShortSlice e }
 
 pub read_text-read-requires : goal.read_text-read-requires
 read_text-read-requires c _ =
@@ -24,9 +22,4 @@ read_text-read-requires c _ =
 
 pub returns : goal.returns
 returns c =
-    let p = let e = load_fits c.args.text.now c.args.store.now c.args.size c.requires c.if-store-size.false in (
-      ap (λ (t : ReadText). record { database = t.database; verdict = Accepted }) (c.read_text-read.ensures.0 ∙ ap text_reply c.requires.read)
-          ∙ ap (database_reply columns) (sym e),
-      c.read_text-read.ensures.1 ∙ ap (λ r. stores true 0 (read_entries table_entries r) c.args.store.now) c.requires.read ∙ stores_start (table_entries c.requires.value) c.args.store.now
-          ∙ ap (λ r. store_after r c.args.store.now) (sym e),
-    ) in record { value = p.0; store_after = p.1 }
+    let e = load_fits c.args.text.now c.args.store.now c.args.size c.requires c.if-store-size.false in record { value = ap (λ (t : ReadText). record { database = t.database; verdict = Accepted }) (c.read_text-read.ensures.value ∙ ap text_reply c.requires.read) ∙ ap (database_reply columns) (sym e); store_after = c.read_text-read.ensures.store_after ∙ ap (λ r. stores true 0 (read_entries table_entries r) c.args.store.now) c.requires.read ∙ stores_start (table_entries c.requires.value) c.args.store.now ∙ ap (λ r. store_after r c.args.store.now) (sym e) }

@@ -1,14 +1,7 @@
-use borrow.Author.Rules.{rules}
-use native.Mathlib.Omega.{arith}
 use Prim.Native.Nat.{◌≤◌, ◌-◌}
-use mathlib.Core.Path.{◌≡◌, ap, ◌∙◌}
 use mathlib.Core.Bool.{false}
-use lib.ListN.{length}
 use Rattle.laws.specs.Lists.{member}
-use Rattle.laws.proofs.Tabulated.{length_tabulate}
-use Rattle.laws.proofs.Indexed.{Written, written_none, written_more, written_all}
-use Rattle.algebra.specs.Columns.{no_cols}
-use Rattle.relation.specs.declared.Columns.{Columns}
+use Rattle.laws.proofs.Indexed.{Written}
 use Rattle.relation.specs.Rows.{columns}
 use Rattle.row_reading.specs.NumberArrays.{listed}
 use Rattle.loading.proofs.table_reader.columns_of.Given as goal

@@ -1,14 +1,8 @@
-use borrow.Author.Rules.{rules}
-use native.Mathlib.Omega.{arith}
-use Prim.Native.Nat.{ℕ, ◌≤◌, ◌-◌, ◌+◌}
-use mathlib.Core.Path.{◌≡◌, refl, ap, sym, ◌∙◌}
-use mathlib.Core.List.{◌∷◌}
-use lib.ListN.{length, drop}
+use Prim.Native.Nat.{◌≤◌, ◌-◌}
+use mathlib.Core.Path.{◌≡◌}
+use lib.ListN.{drop}
 use Rattle.laws.specs.Lists.{member}
-use Rattle.relation.specs.Rows.{columns}
-use Rattle.row_reading.specs.declared.list_reader.Numbers.{Numbers}
 use Rattle.row_reading.specs.NumberArrays.{listed}
-use Rattle.row_reading.proofs.RowLists.{listed_next, listed_end, member_here, member_later, member_none}
 use Rattle.loading.proofs.table_reader.lists.Given as goal
 
 abbrev pub invariant-loop-k : goal.invariant-loop-k

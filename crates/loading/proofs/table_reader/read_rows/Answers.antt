@@ -1,7 +1,7 @@
 -- A turn of the loop is one row more.
 use borrow.Author.Rules.{rules}
 use native.Mathlib.Omega.{arith}
-use Prim.Native.Nat.{ℕ, ◌-◌, ◌<◌}
+use Prim.Native.Nat.{ℕ, ◌<◌}
 use mathlib.Core.Path.{◌≡◌}
 use mathlib.Core.Option.{Option}
 use mathlib.Core.List.{List}
@@ -16,20 +16,20 @@ use Rattle.row_reading.specs.NumberArrays.{listed}
 use Rattle.row_reading.specs.RowReading.{above_of}
 use Rattle.loading.specs.Loading.{MayStore, row_entries}
 use Rattle.row_reading.proofs.LineReplies.{due_row_bad, due_row_next}
-use Rattle.loading.proofs.RowWalks.{rows_read, RowTurn, row_none, row_length, row_room_lem, row_more, row_stops, row_kept, rows_passed, rows_stored}
+use Rattle.loading.proofs.RowWalks.{rows_read, row_none, row_length, row_room_lem, row_more, row_stops, row_kept, rows_passed, rows_stored}
 use Rattle.loading.proofs.table_reader.read_rows.Lts as lts
 use Rattle.loading.proofs.table_reader.read_rows.Reads as reads
 use Rattle.loading.proofs.table_reader.read_rows.Tie as tie
 use Rattle.loading.proofs.table_reader.read_rows.Goals as goal
 
 abbrev After-due_row-read : Type 0
-After-due_row-read = lts.After-due_row tie.the-claims reads.Pre reads.Post tie.handed_clauses goal.the-invariant-loop-i goal.the-decreases-loop-i
+After-due_row-read = lts.After-due_row tie.the-claims reads.Pre reads.Post goal.the-invariant-loop-i goal.the-decreases-loop-i tie.handed_clauses
 
 abbrev At-loop-i : Type 0
-At-loop-i = lts.At-loop tie.the-claims reads.Pre reads.Post tie.handed_clauses goal.the-invariant-loop-i goal.the-decreases-loop-i
+At-loop-i = lts.At-loop tie.the-claims reads.Pre reads.Post goal.the-invariant-loop-i goal.the-decreases-loop-i tie.handed_clauses
 
 abbrev Start : Type 0
-Start = lts.Start tie.the-claims reads.Pre reads.Post tie.handed_clauses goal.the-invariant-loop-i goal.the-decreases-loop-i
+Start = lts.Start tie.the-claims reads.Pre reads.Post goal.the-invariant-loop-i goal.the-decreases-loop-i tie.handed_clauses
 
 module _ (s : Start) where
   abbrev cs : List ℕ
@@ -74,14 +74,9 @@ module _ (c : After-due_row-read) where
 
 pub returns-in_default : goal.returns-in_default
 returns-in_default c =
-    let p = let l = loop c.before.before in
+    let l = loop c.before.before in
     let s = start l in
-    let e = due_row_bad (read c.before.before) (line c.before.before) c.due_row-read.ensures c.in_default.is in (
-      row_stops (cs s) (text s) s.args.first s.args.count s.args.write s.args.from (store₀ s)
-          l.loop-i.store l.loop-i.c l.loop-i.above l.loop-i.at l.loop-i.i l.loop-i.invariant (may l) (more c.before.before) e,
-      row_kept (cs s) (text s) s.args.first s.args.count s.args.write s.args.from (store₀ s)
-          l.loop-i.store l.loop-i.c l.loop-i.above l.loop-i.at l.loop-i.i l.loop-i.invariant (may l) (more c.before.before) e,
-    ) in record { walks = p.0; store_after = p.1 }
+    let e = due_row_bad (read c.before.before) (line c.before.before) c.due_row-read.ensures c.in_default.is in record { walks = row_stops (cs s) (text s) s.args.first s.args.count s.args.write s.args.from (store₀ s) l.loop-i.store l.loop-i.c l.loop-i.above l.loop-i.at l.loop-i.i l.loop-i.invariant (may l) (more c.before.before) e; store_after = row_kept (cs s) (text s) s.args.first s.args.count s.args.write s.args.from (store₀ s) l.loop-i.store l.loop-i.c l.loop-i.above l.loop-i.at l.loop-i.i l.loop-i.invariant (may l) (more c.before.before) e }
 
 pub store_row-requires : goal.store_row-requires
 store_row-requires c w =
@@ -113,15 +108,10 @@ loop-i-preserved c =
 
 pub returns : goal.returns
 returns c =
-    let p = let s = start c.before.before in (
-      rows_passed (cs s) (text s) s.args.first s.args.count s.args.write s.args.from (store₀ s)
-          c.loop-i.store c.loop-i.c c.loop-i.above c.loop-i.at c.loop-i.i c.loop-i.invariant c.loop-i-test.false,
-      rows_stored (cs s) (text s) s.args.first s.args.count s.args.write s.args.from (store₀ s)
-          c.loop-i.store c.loop-i.c c.loop-i.above c.loop-i.at c.loop-i.i c.loop-i.invariant c.loop-i-test.false,
-    ) in record { walks = p.0; store_after = p.1 }
+    let s = start c.before.before in record { walks = rows_passed (cs s) (text s) s.args.first s.args.count s.args.write s.args.from (store₀ s) c.loop-i.store c.loop-i.c c.loop-i.above c.loop-i.at c.loop-i.i c.loop-i.invariant c.loop-i-test.false; store_after = rows_stored (cs s) (text s) s.args.first s.args.count s.args.write s.args.from (store₀ s) c.loop-i.store c.loop-i.c c.loop-i.above c.loop-i.at c.loop-i.i c.loop-i.invariant c.loop-i-test.false }
 
 pub loop-i-init : goal.loop-i-init
-loop-i-init c =     row_none (cs c.before.before.before) (text c.before.before.before) c.args.first c.args.count c.args.write c.args.from (store₀ c.before.before.before) c.requires.0 _
+loop-i-init c = row_none (cs c.before.before.before) (text c.before.before.before) c.args.first c.args.count c.args.write c.args.from (store₀ c.before.before.before) c.requires.0 _
 
 pub due_row-read-requires : goal.due_row-read-requires
 due_row-read-requires c = (c.loop-i.invariant.walk.placed, (start c.before.before).requires.1)

@@ -1,4 +1,3 @@
-use borrow.Author.Rules.{rules}
 use native.Mathlib.Omega.{arith}
 use Prim.Native.Nat.{ℕ, ◌+◌, ◌≤◌}
 use mathlib.Core.Path.{◌≡◌, refl, sym, ◌∙◌, subst}
@@ -64,11 +63,8 @@ module _ (c : After-due_cols-read) where
 
 pub returns-in_default : goal.returns-in_default
 returns-in_default c =
-    let p = let s = (start c.before.before.before).args in
-    let e = table_off (text c.before.before.before) (cursor c.before.before.before) (due_cols_bad (read c.before.before.before) (line c.before.before.before) c.due_cols-read.ensures c.in_default.is) in (
-      subst (λ w. Walks (text c.before.before.before) w (table_read (text c.before.before.before) (cursor c.before.before.before)) (GoodTable c.bad_table.result)) (sym c.bad_table.ensures) e,
-      stores_off table_stored s.write s.from (store c.before.before.before) (table_read (text c.before.before.before) (cursor c.before.before.before)) (DatabaseForm (cursor c.before.before.before).line) e,
-    ) in record { walks = p.0; store_after = p.1 }
+    let s = (start c.before.before.before).args in
+    let e = table_off (text c.before.before.before) (cursor c.before.before.before) (due_cols_bad (read c.before.before.before) (line c.before.before.before) c.due_cols-read.ensures c.in_default.is) in record { walks = subst (λ w. Walks (text c.before.before.before) w (table_read (text c.before.before.before) (cursor c.before.before.before)) (GoodTable c.bad_table.result)) (sym c.bad_table.ensures) e; store_after = stores_off table_stored s.write s.from (store c.before.before.before) (table_read (text c.before.before.before) (cursor c.before.before.before)) (DatabaseForm (cursor c.before.before.before).line) e }
 
 -- and its columns
 module _ (c : In-Next) where
@@ -101,14 +97,11 @@ module _ (c : After-due_count) where
 
 pub returns-in_default-due_count : goal.returns-in_default-due_count
 returns-in_default-due_count c =
-    let p = let t = cols_read (due_read c.before.before.before) in
+    let t = cols_read (due_read c.before.before.before) in
     let s = (start t).args in
     let e =
     table_uncounted (text t) (cursor t) (cs t) (second (due_read c.before.before.before)) (is_read (due_read c.before.before.before)).0
-    (count_bad (count_line_lem c.before.before.before) (sym c.in_default-due_count.is ∙ counted c.before.before.before)) in (
-      subst (λ w. Walks (text t) w (table_read (text t) (cursor t)) (GoodTable c.bad_table-in_default-due_count.result)) (sym c.bad_table-in_default-due_count.ensures) e,
-      stores_off table_stored s.write s.from (store t) (table_read (text t) (cursor t)) (DatabaseForm (second (due_read c.before.before.before)).line) e,
-    ) in record { walks = p.0; store_after = p.1 }
+    (count_bad (count_line_lem c.before.before.before) (sym c.in_default-due_count.is ∙ counted c.before.before.before)) in record { walks = subst (λ w. Walks (text t) w (table_read (text t) (cursor t)) (GoodTable c.bad_table-in_default-due_count.result)) (sym c.bad_table-in_default-due_count.ensures) e; store_after = stores_off table_stored s.write s.from (store t) (table_read (text t) (cursor t)) (DatabaseForm (second (due_read c.before.before.before)).line) e }
 
 -- and its count
 module _ (c : In-Count) where
@@ -145,14 +138,9 @@ read_rows-walked-requires c =
 
 pub returns : goal.returns
 returns c =
-    let p = let d = due_read (count_read c.before.before.before.before.before.before.before) in
+    let d = due_read (count_read c.before.before.before.before.before.before.before) in
     let t = cols_read d in
-    let s = start t in (
-      table_walks (text t) (cursor t) (cs t) (second d) (is_read d).0 (n c.before.before.before.before.before.before.before) (first c.before.before.before.before.before.before.before) (is_counted c.before.before.before.before.before.before.before) c.read_rows-walked.result c.read_rows-walked.ensures.0
-          (record { columns = c.columns_of.result; rows = n c.before.before.before.before.before.before.before; walked = c.read_rows-walked.result }) c.columns_of.ensures refl,
-      c.read_rows-walked.ensures.1
-          ∙ table_stored_lem (text t) (cursor t) (cs t) (second d) (is_read d).0 (n c.before.before.before.before.before.before.before) (first c.before.before.before.before.before.before.before) (is_counted c.before.before.before.before.before.before.before) s.args.write s.args.from (store t) s.requires.2,
-    ) in record { walks = p.0; store_after = p.1 }
+    let s = start t in record { walks = table_walks (text t) (cursor t) (cs t) (second d) (is_read d).0 (n c.before.before.before.before.before.before.before) (first c.before.before.before.before.before.before.before) (is_counted c.before.before.before.before.before.before.before) c.read_rows-walked.result c.read_rows-walked.ensures.walks (record { columns = c.columns_of.result; rows = n c.before.before.before.before.before.before.before; walked = c.read_rows-walked.result }) c.columns_of.ensures refl; store_after = c.read_rows-walked.ensures.store_after ∙ table_stored_lem (text t) (cursor t) (cs t) (second d) (is_read d).0 (n c.before.before.before.before.before.before.before) (first c.before.before.before.before.before.before.before) (is_counted c.before.before.before.before.before.before.before) s.args.write s.args.from (store t) s.requires.2 }
 
 pub columns_of-requires : goal.columns_of-requires
 columns_of-requires c = few_columns (due_read (count_read c.before.before.before.before.before.before))

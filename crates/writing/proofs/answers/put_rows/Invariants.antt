@@ -18,7 +18,9 @@ abbrev pub row_text_lem : Columns → Row → List ℕ
 row_text_lem columns r = line_text (bytes "row=" ++ comma_digits (map (slot r) (column_list width (cols_of width columns))))
 
 abbrev pub invariant-loop-r : goal.invariant-loop-r
-invariant-loop-r l = (i ≤ l.count) × (l.r ≡ min (width * i) (length l.rows)) × Puts l.store (flat_map (row_text_lem l.columns) (rows_of width i l.rows)) l.at l.initial.out l.from l.next
+invariant-loop-r l =
+    (l.r ≤ l.count) × (l.from ≡ min (width * l.r) (length l.rows))
+    × Puts l.store (flat_map (row_text_lem l.columns) (rows_of width l.r l.rows)) l.at l.initial.out l.next l.out
 
 abbrev pub decreases-loop-r : goal.decreases-loop-r
-decreases-loop-r l = l.count - i
+decreases-loop-r l = l.count - l.r

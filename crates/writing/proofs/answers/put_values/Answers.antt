@@ -13,6 +13,7 @@ use Rattle.output.specs.Output.{Puts}
 use Rattle.output.proofs.Puts.{puts_none, puts_then, puts_as, puts_at, puts_length}
 use Rattle.writing.proofs.AnswerLines.{column_read, columns_without, value_there, not_first}
 use Rattle.writing.proofs.answers.put_values.Goals as goal
+use Rattle.writing.proofs.answers.put_values.Goals.{then-columns-c, else-columns-c}
 
 pub loop-c-init : goal.loop-c-init
 unfolding sift tabulate comma_digits
@@ -23,16 +24,18 @@ loop-c-preserved c =
     let n : ℕ = c.loop-c.c in
     let f = slot c.args.values.now in
     let D = cols_of width c.args.columns in
-    ⊎_elim
-    (λ w. let e = column_read width c.args.columns n (omega arith) w.0.taken in (
-      omega arith,
-      w.7 ∙ not_first f D n c.loop-c.first e,
-      puts_at w.8 w.6 (puts_as (ap (λ v. comma_digits (map f (column_list n D)) ++ (when c.loop-c.first then digits v else comma ∷ digits v)) w.1.ensures
-          ∙ value_there f D n c.loop-c.first e c.loop-c.invariant.1) (puts_then c.loop-c.invariant.2 w.3.ensures)),
-    ))
-    (λ w. let e = columns_without D n (column_read width c.args.columns n (omega arith) w.0.left) in
-    (omega arith, w.2 ∙ c.loop-c.invariant.1 ∙ ap null (sym e), puts_at w.3 w.1 (puts_as (ap (λ l. comma_digits (map f l)) (sym e)) c.loop-c.invariant.2)))
-    c.if-columns-c.branch
+    elim c.if-columns-c.branch [
+      | then-columns-c w ↦
+          let e = column_read width c.args.columns n (omega arith) w.if-columns-c.true in (
+            omega arith,
+            w.first-is ∙ not_first f D n c.loop-c.first e,
+            puts_at w.next-is w.out-is (puts_as (ap (λ v. comma_digits (map f (column_list n D)) ++ (when c.loop-c.first then digits v else comma ∷ digits v)) w.entry-n.ensures
+                ∙ value_there f D n c.loop-c.first e c.loop-c.invariant.1) (puts_then c.loop-c.invariant.2 w.put_value-next.ensures)),
+          )
+      | else-columns-c w ↦
+          let e = columns_without D n (column_read width c.args.columns n (omega arith) w.if-columns-c.false) in
+          (omega arith, w.first-is ∙ c.loop-c.invariant.1 ∙ ap null (sym e), puts_at w.next-is w.out-is (puts_as (ap (λ l. comma_digits (map f l)) (sym e)) c.loop-c.invariant.2))
+    ]
 
 pub returns : goal.returns
 returns c =

@@ -12,5 +12,5 @@ unfolding refusal_text bytes
 returns c =
     (
       puts_as (rw (c.refusal_place-place.ensures, c.refusal_number-number.ensures)) c.put_two.ensures,
-      refusal_room_lem c.args.r (omega (arith, c.refusal_place-place.type-inv, c.refusal_place-place.ensures)),
+      refusal_room_lem c.args.r (omega (arith, c.refusal_place-place.type_inv, c.refusal_place-place.ensures)),
     )
