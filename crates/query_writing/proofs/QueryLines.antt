@@ -1,9 +1,8 @@
 -- The lines of a query, as they are put one after the other.
 use mathlib.Core.Path.{◌≡◌, ap, sym, ◌∙◌}
 use mathlib.Core.Bool.{Bool}
-use mathlib.Core.List.{List, [], ◌∷◌, ◌++◌, map, flat_map, append_assoc}
-use Prim.Native.Nat.{ℕ, min, ◌+◌, ◌≤◌, ◌<◌}
-use native.Mathlib.Omega.{arith}
+use mathlib.Core.List.{List, ◌++◌, flat_map}
+use Prim.Native.Nat.{ℕ, min, ◌+◌, ◌<◌}
 use lib.ListN.{length, take, get_or, length-map, length-take, get_or-map}
 use lib.Seq.{get_or-take}
 use Rattle.laws.proofs.FlatMaps.{flat_map_more}
@@ -12,9 +11,8 @@ use Rattle.query.specs.declared.Node.{Node}
 use Rattle.query.specs.declared.Node.TheVariants.{Table}
 use Rattle.query.specs.declared.Query.{Query}
 use Rattle.query.specs.Lines.{nodes, node_limit, blank}
-use Rattle.text.specs.Numbers.{bytes, digits}
 use Rattle.text.specs.Lines.{node_text}
-use Rattle.text.specs.Texts.{line_text, query_text}
+use Rattle.text.specs.Texts.{line_text}
 use Rattle.output.specs.Output.{Puts}
 use Rattle.output.proofs.Puts.{puts_as}
 

@@ -1,7 +1,7 @@
 -- `column_numbers` meets its contract: after c turns the first c places are filled.
 use native.Mathlib.Omega.{arith}
-use Prim.Native.Nat.{ℕ, ◌≤◌, ◌-◌}
-use mathlib.Core.Path.{◌≡◌, refl, ap, sym, ◌∙◌}
+use Prim.Native.Nat.{ℕ}
+use mathlib.Core.Path.{◌≡◌, refl, ap, ◌∙◌}
 use lib.ListN.{set}
 use Rattle.laws.specs.Lists.{tabulate}
 use Rattle.laws.proofs.Passes.{filled}

@@ -1,10 +1,7 @@
-use native.Mathlib.Omega.{arith}
-use Prim.Native.Nat.{ℕ, ◌≤◌, ◌-◌}
-use mathlib.Core.Path.{◌≡◌, refl, ap, sym, ◌∙◌}
-use lib.ListN.{set}
+use Prim.Native.Nat.{◌≤◌, ◌-◌}
+use mathlib.Core.Path.{◌≡◌}
 use Rattle.laws.specs.Lists.{tabulate}
 use Rattle.laws.proofs.Passes.{filled}
-use Rattle.laws.proofs.FlatMaps.{filled_tabulate, filled_tabulate_more}
 use Rattle.relation.specs.Rows.{columns as width}
 use Rattle.writing.proofs.answers.column_numbers.Given as goal
 

@@ -1,5 +1,4 @@
 -- `entry` meets its contract: past the end `slot` is 0.
-use borrow.Author.Rules.{rules}
 use mathlib.Core.Path.{sym}
 use lib.ListN.{get_or-eq_default}
 use Rattle.writing.proofs.answers.entry.Goals as goal

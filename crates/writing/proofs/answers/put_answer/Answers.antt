@@ -1,5 +1,4 @@
 -- `put_answer` meets its contract: the header, the columns, the row count, the rows and the lines run one behind the other.
-use borrow.Author.Rules.{rules}
 use mathlib.Core.Path.{ap, sym, ◌∙◌}
 use mathlib.Core.List.{◌++◌, map}
 use Rattle.relation.specs.Rows.{columns as width, slot, cols_of}

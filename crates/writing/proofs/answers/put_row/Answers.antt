@@ -1,5 +1,4 @@
 -- `put_row` meets its contract: the key, the values and byte 10 one behind the other.
-use borrow.Author.Rules.{rules}
 use Rattle.output.proofs.Puts.{puts_then}
 use Rattle.writing.proofs.answers.put_row.Goals as goal
 

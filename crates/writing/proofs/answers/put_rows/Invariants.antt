@@ -1,17 +1,12 @@
-use borrow.Author.Rules.{rules}
-use native.Mathlib.Omega.{arith}
 use Prim.Native.Nat.{ℕ, min, ◌≤◌, ◌-◌, ◌*◌}
-use mathlib.Core.Path.{◌≡◌, refl, ap, sym, ◌∙◌}
+use mathlib.Core.Path.{◌≡◌}
 use mathlib.Core.List.{List, ◌++◌, map, flat_map}
 use lib.ListN.{length}
-use Rattle.laws.proofs.FlatMaps.{flat_map_none}
 use Rattle.relation.specs.declared.Columns.{Columns}
 use Rattle.relation.specs.Rows.{columns as width, Row, slot, cols_of, rows_of}
 use Rattle.text.specs.Numbers.{bytes, comma_digits}
 use Rattle.text.specs.Texts.{line_text, column_list}
 use Rattle.output.specs.Output.{Puts}
-use Rattle.output.proofs.Puts.{puts_none, puts_past, puts_then, puts_as, puts_length}
-use Rattle.writing.proofs.AnswerRows.{more_rows, rows_behind, row_values}
 use Rattle.writing.proofs.answers.put_rows.Given as goal
 
 abbrev pub row_text_lem : Columns → Row → List ℕ

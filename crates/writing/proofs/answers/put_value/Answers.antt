@@ -1,6 +1,4 @@
 -- `put_value` meets its contract: a comma stands before each number but the first.
-use borrow.Author.Rules.{rules}
-use mathlib.Core.Path.{◌≡◌, ap, sym}
 use Rattle.output.proofs.Puts.{puts_then, puts_as}
 use Rattle.writing.proofs.answers.put_value.Goals as goal
 

@@ -1,5 +1,4 @@
 -- `write_answer` meets its contract: the text is measured, and stored where it fits. The numbers in it are of the types that there is room for.
-use borrow.Author.Rules.{rules}
 use native.Mathlib.Omega.{arith}
 use Prim.Native.Nat.{◌≤◌}
 use lib.Dec.{lit≤}

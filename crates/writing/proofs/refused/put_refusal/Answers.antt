@@ -1,5 +1,4 @@
 -- `put_refusal` meets its contract.
-use borrow.Author.Rules.{rules}
 use native.Mathlib.Omega.{arith}
 use Rattle.text.specs.Numbers.{bytes}
 use Rattle.text.specs.Texts.{refusal_text}
@@ -9,8 +8,7 @@ use Rattle.writing.proofs.refused.put_refusal.Goals as goal
 
 pub returns : goal.returns
 unfolding refusal_text bytes
-returns c =
-    (
-      puts_as (rw (c.refusal_place-place.ensures, c.refusal_number-number.ensures)) c.put_two.ensures,
-      refusal_room_lem c.args.r (omega (arith, c.refusal_place-place.type_inv, c.refusal_place-place.ensures)),
-    )
+returns c = (
+  puts_as (rw (c.refusal_place-place.ensures, c.refusal_number-number.ensures)) c.put_two.ensures,
+  refusal_room_lem c.args.r (omega (arith, c.refusal_place-place.type_inv, c.refusal_place-place.ensures)),
+)

@@ -1,5 +1,4 @@
 -- `write_refusal` meets its contract: the text is measured, and stored where it fits.
-use borrow.Author.Rules.{rules}
 use Rattle.output.proofs.Measured.{short_reply, whole_reply}
 use Rattle.writing.proofs.refused.write_refusal.Goals as goal
 

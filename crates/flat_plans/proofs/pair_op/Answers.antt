@@ -1,0 +1,13 @@
+-- The code is the pairing's.
+use borrow.Author.Rules.{rules}
+use native.Mathlib.Omega.{arith}
+use Prim.Native.Nat.{ℕ, ◌+◌}
+use mathlib.Core.Path.{◌≡◌, refl, ap, sym, ◌∙◌}
+use Rattle.flat.specs.declared.FlatLine.{FlatLine}
+use Rattle.flat.specs.declared.FlatOp.{FlatOp}
+use Rattle.flat.specs.Flat.{op_line}
+use Rattle.flat_plans.proofs.pair_op.Goals as goal
+
+pub returns : goal.returns
+returns c =
+    c.op_line.ensures ∙ ap (λ (l : FlatLine). op_line l.code c.args.to c.args.left c.args.right 0) c.pair_line-line.ensures

@@ -1,0 +1,8 @@
+-- `put_lines::from_middle` puts its lines one after the other.
+use borrow.Author.Rules.{rules}
+use Rattle.path_sheets.specs.Put.{put_all}
+use Rattle.path_sheets.proofs.put_lines.from_middle.Goals as goal
+
+pub returns : goal.returns
+unfolding put_all
+returns c = cc
