@@ -46,7 +46,7 @@ module _ (s : After-smaller-room) where
 
   -- the reply for the smaller limit
   replied : {r : ReadQuery} (p : PropertyPath) → r ≡ query_reply (lines_within room p) → r ≡ query_reply (lines_within (min s.args.limit node_limit) p)
-  replied p s.smaller-room.ensures = s.smaller-room.ensures ∙ ap (λ n. query_reply (lines_within n p)) s.smaller-room.ensures
+  replied p e = e ∙ ap (λ n. query_reply (lines_within n p)) s.smaller-room.ensures
 
 pub loop-i-init : goal.loop-i-init
 loop-i-init c =
