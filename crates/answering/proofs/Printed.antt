@@ -19,7 +19,6 @@ use Rattle.output.specs.declared.Written.{Written}
 use Rattle.text.specs.Texts.{refusal_text, answer_text}
 use Rattle.output.specs.Replies.{write_reply, slice_after}
 use Rattle.writing.specs.Rooms.{refusal_room, answer_room, row_room}
-use Rattle.machine.specs.declared.Outcome.{Outcome}
 use Rattle.machine.specs.declared.Outcome.TheVariants as outcome
 use Rattle.machine.specs.declared.Ran.{Ran}
 use Rattle.machine.specs.Run.{Answer, ran_of}

@@ -1,5 +1,5 @@
 -- What the program `answer` prints for the bytes of its three files.
-use Rattle.std.specs.Prelude.{Bool, true, false, ◌&&◌, List, [], ◌∷◌, ℕ, zero, suc, ◌*◌, leb, length, replicate}
+use Rattle.std.specs.Prelude.{true, false, ◌&&◌, List, ℕ, zero, suc, ◌*◌, leb, length, replicate}
 use Rattle.laws.specs.Lists.{null}
 use Rattle.relation.specs.Rows.{columns}
 use Rattle.database.specs.declared.Database.{Database}

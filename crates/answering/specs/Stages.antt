@@ -7,7 +7,7 @@ use Rattle.database.specs.declared.Refusal.TheVariants.{NoMatch}
 use Rattle.database.specs.declared.Verdict.{Verdict}
 use Rattle.database.specs.declared.Verdict.TheVariants.{Accepted, Refused}
 use Rattle.database.specs.Stored.{schema, table_rows}
-use Rattle.database.specs.Refusals.{Reply, refused, accepted, ◌>>=◌}
+use Rattle.database.specs.Refusals.{Reply, accepted, ◌>>=◌}
 use Rattle.query.specs.declared.Query.{Query}
 use Rattle.query.specs.Check.{check_over}
 use Rattle.output.specs.declared.Written.{Written}

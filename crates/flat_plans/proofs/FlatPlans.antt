@@ -1,8 +1,8 @@
 -- The lines of a plan as blocks of entries.
-use mathlib.Core.Path.{◌≡◌, refl, ap, sym, ◌∙◌}
+use mathlib.Core.Path.{◌≡◌, refl, ap, ◌∙◌}
 use mathlib.Core.List.{List, []}
 use Prim.Native.Nat.{ℕ, min, ◌-◌, ◌<◌}
-use lib.ListN.{length, take, get_or, replicate, length-map, length-take}
+use lib.ListN.{length, get_or, replicate, length-take}
 use lib.Seq.{get_or-take, take-append_seam}
 use mir.Val.{Val}
 use denote.Laws.{Is}

@@ -1,8 +1,5 @@
 -- Each line by its kind.
-use borrow.Author.Rules.{rules}
-use native.Mathlib.Omega.{arith}
-use Prim.Native.Nat.{ℕ, ◌+◌}
-use mathlib.Core.Path.{◌≡◌, refl, ap, sym, ◌∙◌}
+use mathlib.Core.Path.{ap, ◌∙◌}
 use Rattle.flat.specs.Flat.{op_line}
 use Rattle.flat_plans.proofs.flat_op.Goals as goal
 

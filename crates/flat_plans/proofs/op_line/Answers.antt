@@ -1,10 +1,6 @@
 -- Each number as an entry.
-use borrow.Author.Rules.{rules}
-use native.Mathlib.Omega.{arith}
-use Prim.Native.Nat.{ℕ, ◌+◌}
-use mathlib.Core.Path.{◌≡◌, refl, ap, sym, ◌∙◌}
-use Rattle.flat.specs.declared.FlatLine.{FlatLine}
-use Rattle.flat.specs.declared.FlatOp.{FlatOp}
+use Prim.Native.Nat.{ℕ}
+use mathlib.Core.Path.{ap, ◌∙◌}
 use Rattle.flat.specs.Flat.{entry}
 use Rattle.flat_plans.proofs.op_line.Goals as goal
 

@@ -1,10 +1,6 @@
 -- The code is the pairing's.
-use borrow.Author.Rules.{rules}
-use native.Mathlib.Omega.{arith}
-use Prim.Native.Nat.{ℕ, ◌+◌}
-use mathlib.Core.Path.{◌≡◌, refl, ap, sym, ◌∙◌}
+use mathlib.Core.Path.{ap, ◌∙◌}
 use Rattle.flat.specs.declared.FlatLine.{FlatLine}
-use Rattle.flat.specs.declared.FlatOp.{FlatOp}
 use Rattle.flat.specs.Flat.{op_line}
 use Rattle.flat_plans.proofs.pair_op.Goals as goal
 

@@ -1,9 +1,9 @@
 -- `write_path`: after i bytes of an accepted text, what is kept is the reader's state's.
 use mathlib.Core.Path.{◌≡◌, ap, sym, ◌∙◌, subst}
 use mathlib.Core.List.{List, ◌∷◌}
-use Prim.Native.Nat.{ℕ, ◌+◌, ◌-◌, ◌≤◌, ◌<◌, min}
+use Prim.Native.Nat.{ℕ, ◌+◌, ◌≤◌, ◌<◌, min}
 use native.Mathlib.Omega.{arith}
-use lib.ListN.{length, drop, get_or, drop_of_length-le}
+use lib.ListN.{drop, get_or, drop_of_length-le}
 use Rattle.laws.proofs.Fronts.{drop_next}
 use Rattle.database.specs.Refusals.{accepted}
 use Rattle.query.specs.Lines.{node_limit}
@@ -49,12 +49,11 @@ module _ (s : After-smaller-room) where
   replied p e = e ∙ ap (λ n. query_reply (lines_within n p)) s.smaller-room.ensures
 
 pub loop-i-init : goal.loop-i-init
-loop-i-init c =
-    (
-      omega arith,
-      omega arith,
-      λ p e. subst (λ (w : Writing). Along (room c.before.before) p w 0 (text c.before.before)) (sym c.no_writing-writing.ensures) (along_start (room c.before.before) (text c.before.before) p e),
-    )
+loop-i-init c = (
+  omega arith,
+  omega arith,
+  λ p e. subst (λ (w : Writing). Along (room c.before.before) p w 0 (text c.before.before)) (sym c.no_writing-writing.ensures) (along_start (room c.before.before) (text c.before.before) p e),
+)
 
 -- in a turn: the byte at hand and the bytes behind it
 module _ (t : In-loop-i) where

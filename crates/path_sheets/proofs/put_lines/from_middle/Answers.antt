@@ -1,5 +1,4 @@
 -- `put_lines::from_middle` puts its lines one after the other.
-use borrow.Author.Rules.{rules}
 use Rattle.path_sheets.specs.Put.{put_all}
 use Rattle.path_sheets.proofs.put_lines.from_middle.Goals as goal
 

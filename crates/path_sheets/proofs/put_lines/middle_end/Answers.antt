@@ -1,5 +1,4 @@
 -- `put_lines::middle_end` puts the lines where they are wanted.
-use borrow.Author.Rules.{rules}
 use Rattle.path_sheets.specs.Put.{put_all}
 use Rattle.path_sheets.proofs.put_lines.middle_end.Goals as goal
 

@@ -1,7 +1,6 @@
 -- `put_lines::path_end`: the last sequence's lines, then the union.
 use mathlib.Core.Path.{ap, sym, ◌∙◌}
 use mathlib.Core.List.{[], ◌∷◌}
-use borrow.Author.Rules.{rules}
 use Rattle.algebra.specs.declared.Pairing.TheVariants.{Union}
 use Rattle.query.specs.declared.Node.TheVariants.{Pair}
 use Rattle.path_sheets.specs.declared.Sheet.{Sheet}

@@ -1,7 +1,6 @@
 -- `put_lines::plus_end`: the sequence of the plus's variable and its operand, then the fix.
 use mathlib.Core.Path.{ap, ◌∙◌}
 use mathlib.Core.List.{[], ◌∷◌, ◌++◌}
-use borrow.Author.Rules.{rules}
 use Rattle.query.specs.declared.Node.TheVariants.{Var, Fix}
 use Rattle.paths.specs.Patterns.{to_middle, from_middle}
 use Rattle.path_sheets.specs.Put.{put_all, again_lines}

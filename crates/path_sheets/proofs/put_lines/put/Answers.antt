@@ -1,6 +1,5 @@
 -- `put_lines::put` tests the room.
 use mathlib.Core.Path.{ap, ◌∙◌}
-use borrow.Author.Rules.{rules}
 use borrow.Author.Tests.{le-leb, lt-leb}
 use Rattle.query.specs.declared.Query.{Query}
 use Rattle.path_sheets.specs.Put.{put_line}

@@ -1,6 +1,5 @@
 -- `put_lines::raise_line` is the definition, line by line.
 use mathlib.Core.Path.{ap, sym, ◌∙◌}
-use borrow.Author.Rules.{rules}
 use Rattle.query.specs.declared.Node.TheVariants.{Var, Fix, Mu}
 use Rattle.path_sheets.specs.Put.{raised_low}
 use Rattle.path_sheets.proofs.put_lines.raise_line.Goals as goal

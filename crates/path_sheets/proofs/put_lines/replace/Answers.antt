@@ -1,5 +1,4 @@
 -- `put_lines::replace` stores the line where there is one.
-use borrow.Author.Rules.{rules}
 use borrow.Author.Tests.{le-leb, lt-leb}
 use Rattle.path_sheets.proofs.put_lines.replace.Goals as goal
 

@@ -1,6 +1,5 @@
 -- `put_lines::sequence_end`: the exchange, then the join.
 use mathlib.Core.Path.{ap, sym, ◌∙◌}
-use borrow.Author.Rules.{rules}
 use Rattle.paths.specs.Patterns.{from_middle}
 use Rattle.paths.specs.Written.{turn_end}
 use Rattle.path_sheets.specs.declared.Sheet.{Sheet}

@@ -1,5 +1,4 @@
 -- `put_lines::union_end` puts the line where it is wanted.
-use borrow.Author.Rules.{rules}
 use Rattle.path_sheets.specs.Put.{put_all}
 use Rattle.path_sheets.proofs.put_lines.union_end.Goals as goal
 

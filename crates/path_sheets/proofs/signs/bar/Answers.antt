@@ -1,7 +1,6 @@
 -- `signs::bar`: the path so far ends.
 use mathlib.Core.Path.{ap, ◌∙◌}
 use mathlib.Core.Bool.{true, false}
-use borrow.Author.Rules.{rules}
 use Rattle.path_sheets.specs.declared.Sheet.{Sheet}
 use Rattle.path_sheets.specs.BySign.{due_with}
 use Rattle.path_sheets.proofs.signs.bar.Goals as goal

@@ -1,6 +1,5 @@
 -- `signs::digit`: a name's line, or another in its place.
 use mathlib.Core.Path.{ap, ◌∙◌}
-use borrow.Author.Rules.{rules}
 use Rattle.path_sheets.specs.declared.Sheet.{Sheet}
 use Rattle.path_sheets.specs.BySign.{ended_with}
 use Rattle.path_sheets.proofs.signs.digit.Goals as goal

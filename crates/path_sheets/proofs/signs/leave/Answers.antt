@@ -2,7 +2,6 @@
 use mathlib.Core.Path.{ap, ap₂, sym, ◌∙◌}
 use Prim.Native.Nat.{◌-◌}
 use lib.ListN.{get_or}
-use borrow.Author.Rules.{rules}
 use borrow.Author.Tests.{le-leb, lt-leb}
 use Rattle.paths.specs.Reader.{path_limit}
 use Rattle.path_sheets.specs.BySign.{no_before, ended_with}

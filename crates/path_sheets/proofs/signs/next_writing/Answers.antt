@@ -1,6 +1,5 @@
 -- `signs::next_writing` is the definition, sign by sign.
 use mathlib.Core.Path.{ap, sym, ◌∙◌}
-use borrow.Author.Rules.{rules}
 use Rattle.path_sheets.specs.BySign.{by_sign}
 use Rattle.path_sheets.proofs.signs.next_writing.Goals as goal
 

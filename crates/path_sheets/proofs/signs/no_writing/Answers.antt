@@ -2,7 +2,6 @@
 use mathlib.Core.Path.{ap₂}
 use mathlib.Core.Bool.{false}
 use lib.ListN.{replicate}
-use borrow.Author.Rules.{rules}
 use Rattle.query.specs.declared.Query.{Query}
 use Rattle.paths.specs.Reader.{path_limit}
 use Rattle.path_sheets.specs.declared.Before.{Before}

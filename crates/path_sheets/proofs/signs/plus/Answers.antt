@@ -1,7 +1,6 @@
 -- `signs::plus`: the recursions are counted as the definition does.
 use mathlib.Core.Path.{◌≡◌, ap, ap₂, ◌∙◌}
 use Prim.Native.Nat.{ℕ, ◌+◌, ◌-◌, min}
-use borrow.Author.Rules.{rules}
 use Rattle.query.specs.Lines.{node_limit}
 use Rattle.path_sheets.specs.declared.Sheet.{Sheet}
 use Rattle.path_sheets.specs.declared.Writing.{Writing}

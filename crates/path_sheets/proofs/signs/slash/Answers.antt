@@ -1,7 +1,6 @@
 -- `signs::slash`: the sequence so far ends, and its middle is renamed.
 use mathlib.Core.Path.{ap, sym, ◌∙◌}
 use mathlib.Core.Bool.{true}
-use borrow.Author.Rules.{rules}
 use Rattle.paths.specs.Patterns.{to_middle}
 use Rattle.path_sheets.specs.declared.Sheet.{Sheet}
 use Rattle.path_sheets.specs.Put.{put_all, sequence_last}
