@@ -4,7 +4,6 @@ use mathlib.Core.List.{List}
 use Prim.Native.Nat.{ℕ}
 use Rattle.database.specs.declared.Database.{Database}
 use Rattle.database.specs.declared.Refusal.{Refusal}
-use Rattle.database.specs.declared.Verdict.{Verdict}
 use Rattle.database.specs.declared.Verdict.TheVariants.{Accepted, Refused}
 use Rattle.database.specs.Stored.{schema, check_database}
 use Rattle.database.specs.Refusals.{Reply, refused, accepted, verdict, no_fault}
