@@ -3,7 +3,7 @@
 -- stored book with those columns; any node limit, row limit and budget and any slices: if the run of the held sheet finishes, its columns and rows are
 -- those of the FIRST sheet's meaning, as typed, over that book.
 use mathlib.Core.Path.{◌≡◌, ap, sym, ◌∙◌, subst}
-use mathlib.Core.List.{List, [], ◌∷◌}
+use mathlib.Core.List.{List}
 use Prim.Native.Nat.{ℕ, ◌≤◌}
 use native.Mathlib.Omega.{arith}
 use Rattle.laws.proofs.EachMember.{Each, each_map}

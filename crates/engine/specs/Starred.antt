@@ -1,8 +1,8 @@
 -- Document 01's starred cases as one table, over what the public entries reply to raw values.
-use Rattle.std.specs.Prelude.{◌≡◌, List, [], ◌∷◌, ◌++◌, map, ℕ, ◌+◌, ◌*◌, replicate}
+use Rattle.std.specs.Prelude.{List, [], ◌∷◌, ◌++◌, ℕ, replicate}
 use Rattle.algebra.specs.declared.Pairing.TheVariants.{Join}
 use Rattle.algebra.specs.declared.Condition.TheVariants.{Eq}
-use Rattle.relation.specs.Rows.{Rows, columns, cols_of}
+use Rattle.relation.specs.Rows.{columns, cols_of}
 use Rattle.database.specs.declared.Database.{Database}
 use Rattle.database.specs.Refusals.{Reply, refused, accepted, number, place_of, ◌>>=◌}
 use Rattle.query.specs.declared.Node.{Node}
