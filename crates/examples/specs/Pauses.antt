@@ -5,7 +5,6 @@ use Rattle.relation.specs.Rows.{columns, entries}
 use Rattle.database.specs.declared.Database.{Database}
 use Rattle.database.specs.Refusals.{Reply, refused, accepted, number, place_of}
 use Rattle.query.specs.declared.Query.{Query}
-use Rattle.text.specs.Texts
 use Rattle.text.specs.Texts.{query_value, database_value, table_entries}
 use Rattle.machine.specs.declared.Pause.{Pause}
 use Rattle.machine.specs.Limits.{Limits, desk_limits, panel_limits}

@@ -1,5 +1,5 @@
 -- What the entries reply to values: refusals that a text cannot cause, the rule's sheet of each kind, and the slices at exit.
-use Rattle.std.specs.Prelude.{List, [], ◌∷◌, ◌++◌, map, ℕ, ◌+◌, ◌*◌, replicate, drop}
+use Rattle.std.specs.Prelude.{List, [], ◌∷◌, ◌++◌, map, ℕ, replicate}
 use Rattle.algebra.specs.declared.Pairing.TheVariants.{Union, Join, Except}
 use Rattle.algebra.specs.declared.Condition.TheVariants.{Eq, Same}
 use Rattle.relation.specs.Rows.{columns, columns_of}

@@ -1,5 +1,5 @@
 -- The measure is what is left of the text: a line ends where it begins or behind that.
-use Rattle.std.specs.Prelude.{◌-◌, ◌≤◌, ◌^◌, ◌<◌, length}
+use Rattle.std.specs.Prelude.{◌-◌, ◌^◌, ◌<◌, length}
 use Rattle.steps.proofs.apply_lines.Given as goal
 
 abbrev pub invariant-loop-at : goal.invariant-loop-at
