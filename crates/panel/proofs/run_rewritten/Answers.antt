@@ -1,5 +1,4 @@
 -- `run_rewritten` meets its contract: it is the desk's list call at the panel's limits, and a workspace of PANEL_WORKSPACE entries is enough.
-use borrow.Author.Rules.{rules}
 use native.Mathlib.Omega.{arith}
 use Rattle.relation.specs.Rows.{columns}
 use Rattle.machine.specs.Limits.{panel_limits}
@@ -9,5 +8,9 @@ use Rattle.panel.proofs.run_rewritten.Goals as goal
 
 pub returns : goal.returns
 returns c =
-    let p = let left = left_by columns panel_limits.nodes c.args.query c.args.database c.args.store.now c.args.steps.now in
-    (c.run_rewritten.ensures.value, (c.run_rewritten.ensures.meaning, λ h. panel_begins left c.args.database c.args.store.now c.args.budget c.args.workspace.now (omega arith))) in record { value = p.0; meaning = p.1.0; enough = p.1.1 }
+    let left = left_by columns panel_limits.nodes c.args.query c.args.database c.args.store.now c.args.steps.now in
+    record {
+      value = c.run_rewritten.ensures.value;
+      meaning = c.run_rewritten.ensures.meaning;
+      enough = λ h. panel_begins left c.args.database c.args.store.now c.args.budget c.args.workspace.now (omega arith);
+    }
