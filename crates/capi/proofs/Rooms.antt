@@ -9,7 +9,7 @@ use lib.ListN.{length}
 use Rattle.laws.proofs.Tests.{and_true_left, and_true_right}
 use Rattle.database.specs.declared.Database.{Database}
 use Rattle.database.specs.declared.Refusal.TheVariants.{ShortSlice}
-use Rattle.database.specs.Refusals.{Reply, refused, accepted, require, ◌>>=◌}
+use Rattle.database.specs.Refusals.{Reply, refused, require, ◌>>=◌}
 use Rattle.query.specs.declared.Query.{Query}
 use Rattle.flat.specs.Flat.{query_room, query_of, database_room, database_of, have_room}
 use Rattle.capi.specs.Calls.{room_for, with_flat, with_room}

@@ -16,7 +16,7 @@ use Rattle.machine.specs.Pauses.{pause_of, Part, ended, paused, begin_run, begin
 use Rattle.text.specs.Texts.{Table, read_nodes, database_value}
 use Rattle.text.specs.Replies.{load_tables}
 use Rattle.paths.specs.Sheets.{path_nodes}
-use Rattle.flat.specs.Flat.{query_room, query_of, flat_nodes, over, database_room, database_of, have_room, flat_database, run_room, pause_room, flat_pause, pause_in, plan_room, allowance_room}
+use Rattle.flat.specs.Flat.{query_room, query_of, over, database_room, database_of, have_room, flat_database, run_room, pause_room, flat_pause, pause_in, plan_room, allowance_room}
 
 -- "lent slice short": a slice with less than the layout's room, before anything else is tested
 abbrev pub room_for : ℕ → List ℕ → Reply (Unit {0})
