@@ -38,9 +38,9 @@ def the_width_stands_once():
         ("crates/database/specs/Refusals.antt", "number (HalfOpen n) = 8"),
         (
             "crates/algebra/specs/Past.antt",
-            "past_pair k f Join a b = when eqb k 8 then some (past_left f a b) else (when eqb k 9 then some (past_right f a b) else none)",
+            "past_pair k f Join a b = when eqb k 8 then Some (past_left f a b) else (when eqb k 9 then Some (past_right f a b) else None)",
         ),
-        ("crates/passing/specs/Passing.antt", "pair_passed Join = when eqb k 8 then PastLeft f else when eqb k 9 then PastRight f else Nothing"),
+        ("crates/passing/specs/Passing.antt", "pair_passed Join = when eqb k 8 then Some (PastLeft f) else when eqb k 9 then Some (PastRight f) else None"),
         ("crates/writing/specs/Rooms.antt", "refusal_room = line_room 8 (number_digits + 1 + place_digits)"),
     ]
     return [f"{path}: {line}" for path, line in found if (path, line) not in allowed] + [

@@ -1,7 +1,7 @@
 -- U5's floor sheets "copy the floor to a working column, drop it and copy it back": the column has its origin again.
 use mathlib.Core.Path.{◌≡◌, ap, sym, ◌∙◌}
 use mathlib.Core.Logic.{◌≢◌}
-use mathlib.Core.Option.{Option}
+use Rattle.std.specs.Prelude.{Option}
 use Prim.Native.Nat.{ℕ}
 use borrow.Author.Tests.{ne_eqb}
 use Rattle.laws.proofs.Tests.{eqb_self}

@@ -1,7 +1,7 @@
 -- The columns of a mapping, and tables whose mappings have theirs.
 use mathlib.Core.Path.{◌≡◌, refl, ◌∙◌}
 use mathlib.Core.Bool.{true, ◌||◌}
-use mathlib.Core.Option.{Option, some, none}
+use Rattle.std.specs.Prelude.{Option, Some, None}
 use Prim.Native.Nat.{ℕ, ◌<◌}
 use lib.Dec.{eqb}
 use Rattle.laws.proofs.Tests.{if_apply}
@@ -19,8 +19,8 @@ abbrev pub TypedTables : Schema → Environment → Type 0
 TypedTables G T = (t : ℕ) → t < G.tables → (m : Mapping) → T t m → Domain m (G.columns t)
 
 either_some : (o p : Option ℕ) → is_some (or_else o p) ≡ is_some o || is_some p
-either_some none p = refl
-either_some (some a) p = refl
+either_some None p = refl
+either_some (Some a) p = refl
 
 pub domain_nothing : Domain nothing no_cols
 unfolding Domain
@@ -34,9 +34,9 @@ pub domain_put : (x : Mapping) (D : Cols) (d : ℕ) (o : Option ℕ) → Domain 
 unfolding Domain put with
 domain_put x D d o h e c = rw (if_apply is_some (eqb c d) o (x c), e, h c)
 
-pub domain_drop : (x : Mapping) (D : Cols) (d : ℕ) → Domain x D → Domain (put x d none) (without D d)
+pub domain_drop : (x : Mapping) (D : Cols) (d : ℕ) → Domain x D → Domain (put x d None) (without D d)
 unfolding Domain put without
-domain_drop x D d h c = rw (if_apply is_some (eqb c d) none (x c), h c)
+domain_drop x D d h c = rw (if_apply is_some (eqb c d) None (x c), h c)
 
 pub domain_at : (x : Mapping) (D : Cols) (c : ℕ) → Domain x D → D c ≡ true → is_some (x c) ≡ true
 unfolding Domain

@@ -1,7 +1,7 @@
 -- U9, what a `last` keeps: no two rows that agree in every other column; of rows without another column the greatest; and "adding rows can remove its results".
 use mathlib.Core.Path.{◌≡◌, refl, ap, sym, ◌∙◌, fun_ext}
 use mathlib.Core.Bool.{Bool, true, false}
-use mathlib.Core.Option.{some, none}
+use Rattle.std.specs.Prelude.{Some, None}
 use mathlib.Core.Logic.{◌⊎◌, inl, inr, ◌≢◌, ◌↔◌}
 use Prim.Native.Nat.{ℕ, ◌≤◌, ◌<◌}
 use native.Mathlib.Omega.{arith}
@@ -14,7 +14,7 @@ use Rattle.algebra.specs.Term.{Outdone, latest}
 use Rattle.algebra.proofs.Mappings.{Within}
 
 module _ (c : ℕ) (R : Relation) where
-  kept_low : (m x : Mapping) (a b : ℕ) → latest c R m → R x → ((e : ℕ) → e ≢ c → x e ≡ m e) → m c ≡ some a → x c ≡ some b → b ≤ a
+  kept_low : (m x : Mapping) (a b : ℕ) → latest c R m → R x → ((e : ℕ) → e ≢ c → x e ≡ m e) → m c ≡ Some a → x c ≡ Some b → b ≤ a
   unfolding latest Outdone
   kept_low m x a b (_, n) r s i j = by_test (ltb a b) refl
     where
@@ -23,17 +23,17 @@ module _ (c : ℕ) (R : Relation) where
       by_test false e = ltb-false a b e
 
   -- ties are impossible: two rows that are kept and agree in every other column are one
-  pub latest_unique : (m x : Mapping) (a b : ℕ) → latest c R m → latest c R x → ((e : ℕ) → e ≢ c → x e ≡ m e) → m c ≡ some a → x c ≡ some b → x ≡ m
+  pub latest_unique : (m x : Mapping) (a b : ℕ) → latest c R m → latest c R x → ((e : ℕ) → e ≢ c → x e ≡ m e) → m c ≡ Some a → x c ≡ Some b → x ≡ m
   unfolding latest
   latest_unique m x a b k l s i j =
       let h = kept_low m x a b k l.0 s i j in
       let g = kept_low x m b a l k.0 (λ e n. sym (s e n)) j i in
       let same : b ≡ a = omega arith in
-      fun_ext λ e. elim (same? e c) [ inl (p, _) ↦ ap x p ∙ j ∙ ap some same ∙ sym i ∙ ap m (sym p) | inr (p, _) ↦ s e p ]
+      fun_ext λ e. elim (same? e c) [ inl (p, _) ↦ ap x p ∙ j ∙ ap Some same ∙ sym i ∙ ap m (sym p) | inr (p, _) ↦ s e p ]
 
   -- where the rows have no other column, the one greatest is kept
-  pub latest_alone : ((x : Mapping) → R x → (e : ℕ) → e ≢ c → x e ≡ none) → (m : Mapping) (a : ℕ) → m c ≡ some a
-      → latest c R m ↔ (R m × ((x : Mapping) (b : ℕ) → R x → x c ≡ some b → b ≤ a))
+  pub latest_alone : ((x : Mapping) → R x → (e : ℕ) → e ≢ c → x e ≡ None) → (m : Mapping) (a : ℕ) → m c ≡ Some a
+      → latest c R m ↔ (R m × ((x : Mapping) (b : ℕ) → R x → x c ≡ Some b → b ≤ a))
   unfolding latest Outdone
   latest_alone only m a i = (
     (λ (r, n). (r, λ x b s j. kept_low m x a b (r, n) s (λ e p. only x s e p ∙ sym (only m r e p)) i j)),
@@ -53,10 +53,10 @@ adding_removes c = (
 )
   where
     one : ℕ → Mapping
-    one v = put nothing c (some v)
+    one v = put nothing c (Some v)
 
-    at : (v : ℕ) → put nothing c (some v) c ≡ some v
+    at : (v : ℕ) → put nothing c (Some v) c ≡ Some v
     at v = rw (eqb_self c)
 
-    elsewhere : (e : ℕ) → e ≢ c → put nothing c (some 1) e ≡ put nothing c (some 0) e
+    elsewhere : (e : ℕ) → e ≢ c → put nothing c (Some 1) e ≡ put nothing c (Some 0) e
     elsewhere e p = elim (same? e c) [ inl (q, _) ↦ absurd (p q) | inr (_, q) ↦ rw q ]

@@ -1,7 +1,7 @@
 -- Where the columns of a path come from: a column holds, in every row that the step gives, the value that the variable's row has at its origin.
 use mathlib.Core.Path.{◌≡◌, refl, ap, sym, ◌∙◌}
 use mathlib.Core.Bool.{Bool, true, false}
-use mathlib.Core.Option.{Option, some, none}
+use Rattle.std.specs.Prelude.{Option, Some, None}
 use mathlib.Core.Logic.{inl, inr}
 use Prim.Native.Nat.{ℕ}
 use lib.Dec.{eqb}
@@ -19,16 +19,16 @@ use Rattle.algebra.proofs.Domain.{Domain, domain_at}
 use Rattle.algebra.proofs.ColumnSets.{in_left, in_right}
 
 -- where both sides agree, each has what they agree on
-agreed_both : (o p : Option ℕ) {b : ℕ} → agreed o p ≡ some b → (o ≡ some b) × (p ≡ some b)
-agreed_both none p e = none_some e
-agreed_both (some a) none e = none_some e
-agreed_both (some a) (some c) e = elim (same? a c) [
-  | inl i ↦ let g = rw i.1 at e in (g, ap some (sym i.0) ∙ g)
+agreed_both : (o p : Option ℕ) {b : ℕ} → agreed o p ≡ Some b → (o ≡ Some b) × (p ≡ Some b)
+agreed_both None p e = none_some e
+agreed_both (Some a) None e = none_some e
+agreed_both (Some a) (Some c) e = elim (same? a c) [
+  | inl i ↦ let g = rw i.1 at e in (g, ap Some (sym i.0) ∙ g)
   | inr i ↦ none_some (rw i.1 at e)
 ]
 
 -- a closed operand's columns have no origin
-pub closed_origin : {G : Schema} (C : Cols) (e : ℕ) {t : Term} → Closed G t → origin C t e ≡ none
+pub closed_origin : {G : Schema} (C : Cols) (e : ℕ) {t : Term} → Closed G t → origin C t e ≡ None
 unfolding origin pair_origin
 closed_origin C e (c_table _) = refl
 closed_origin C e c_fact = refl
@@ -36,8 +36,8 @@ closed_origin C e (c_pair {o = Union} p q _) = rw (closed_origin C e p)
 closed_origin C e (c_pair {o = Join} p q _) = rw (closed_origin C e p) (closed_origin C e q)
 closed_origin C e (c_pair {o = Except} p q _) = closed_origin C e p
 closed_origin C e (c_filter p _) = closed_origin C e p
-closed_origin C e (c_copy {c = c} {d = d} p _ _) = rw (closed_origin C c p, closed_origin C e p) (if_same (eqb e d) none)
-closed_origin C e (c_drop {c = c} p _) = rw (closed_origin C e p) (if_same (eqb e c) none)
+closed_origin C e (c_copy {c = c} {d = d} p _ _) = rw (closed_origin C c p, closed_origin C e p) (if_same (eqb e d) None)
+closed_origin C e (c_drop {c = c} p _) = rw (closed_origin C e p) (if_same (eqb e c) None)
 closed_origin C e (c_last p _) = closed_origin C e p
 closed_origin C e (c_fix p q _) = refl
 
@@ -52,12 +52,12 @@ module _ {G : Schema} (C : Cols) where
   join_right_origin b p e = rw (closed_origin C e p)
 
 -- what came out of the variable
-own_origin : (i : Bool) (e b : ℕ) → (when i then some e else none) ≡ some b → (i ≡ true) × (e ≡ b)
+own_origin : (i : Bool) (e b : ℕ) → (when i then Some e else None) ≡ Some b → (i ≡ true) × (e ≡ b)
 own_origin true e b h = (refl, some_inj h)
 own_origin false e b h = none_some h
 
 -- a column with an origin is a column of the node
-pub origin_cols : {G : Schema} {v : ℕ} {C : Cols} {t : Term} → Path G v C t → (e b : ℕ) → origin C t e ≡ some b → cols G C t e ≡ true
+pub origin_cols : {G : Schema} {v : ℕ} {C : Cols} {t : Term} → Path G v C t → (e b : ℕ) → origin C t e ≡ Some b → cols G C t e ≡ true
 unfolding origin pair_origin cols pair_cols with without
 origin_cols {C = C} p_var e b h = (own_origin (C e) e b h).0
 origin_cols {C = C} (p_union {a = x} {b = y} p q _) e b h = origin_cols p e b (agreed_both (origin C x e) (origin C y e) h).0
@@ -70,18 +70,18 @@ origin_cols (p_drop {c = c} p _) e b h = elim (same? e c) [ inl i ↦ none_some 
 
 -- two entries hold one value
 abbrev OneValue : Option ℕ → Option ℕ → Type 0
-OneValue o p = (w : ℕ) × (o ≡ some w) × (p ≡ some w)
+OneValue o p = (w : ℕ) × (o ≡ Some w) × (p ≡ Some w)
 
 one_value_left : (o p q : Option ℕ) → OneValue o p → OneValue (or_else o q) p
 one_value_left o p q (w, i, j) = (w, rw i, j)
 
-one_value_right : (o p q : Option ℕ) → ((a b : ℕ) → q ≡ some a → o ≡ some b → a ≡ b) → OneValue o p → OneValue (or_else q o) p
-one_value_right o p none f h = h
-one_value_right o p (some a) f (w, i, j) = (w, ap some (f a w refl i), j)
+one_value_right : (o p q : Option ℕ) → ((a b : ℕ) → q ≡ Some a → o ≡ Some b → a ≡ b) → OneValue o p → OneValue (or_else q o) p
+one_value_right o p None f h = h
+one_value_right o p (Some a) f (w, i, j) = (w, ap Some (f a w refl i), j)
 
 module _ (G : Schema) (T : Environment) (ρ : Environment) where
   row_value : {v : ℕ} {C : Cols} {t : Term} → Path G v C t → (x : Mapping) → Domain x C → (y : Mapping) → meaning T t (bind ρ v (only x)) y
-      → (e b : ℕ) → origin C t e ≡ some b → OneValue (y e) (x b)
+      → (e b : ℕ) → origin C t e ≡ Some b → OneValue (y e) (x b)
   unfolding meaning paired origin pair_origin combine Compatible put
   row_value {v} {C} p_var x d y r e b h =
       let (i, j) = own_origin (C e) e b h in
@@ -106,15 +106,15 @@ module _ (G : Schema) (T : Environment) (ρ : Environment) where
 
   -- each row of the step has at a column the value that the variable's row it comes from has at the column's origin
   pub origin_value : {v : ℕ} {C : Cols} {t : Term} → Path G v C t → (x : Mapping) → Domain x C → (y : Mapping) → meaning T t (bind ρ v (only x)) y
-      → (e b : ℕ) → origin C t e ≡ some b → y e ≡ x b
+      → (e b : ℕ) → origin C t e ≡ Some b → y e ≡ x b
   origin_value p x d y r e b h = let (w, i, j) = row_value p x d y r e b h in i ∙ sym j
 
-pub stable_origin : (C : Cols) (t : Term) (c : ℕ) → stable C t c ≡ true → origin C t c ≡ some c
+pub stable_origin : (C : Cols) (t : Term) (c : ℕ) → stable C t c ≡ true → origin C t c ≡ Some c
 stable_origin C t c h = by_origin (origin C t c) h
   where
-    by_origin : (o : Option ℕ) → has_origin o c ≡ true → o ≡ some c
-    by_origin none e = true_false (sym e)
-    by_origin (some b) e = ap some (eqb-true b c e)
+    by_origin : (o : Option ℕ) → has_origin o c ≡ true → o ≡ Some c
+    by_origin None e = true_false (sym e)
+    by_origin (Some b) e = ap Some (eqb-true b c e)
 
-pub origin_stable : (C : Cols) (t : Term) (c : ℕ) → origin C t c ≡ some c → stable C t c ≡ true
+pub origin_stable : (C : Cols) (t : Term) (c : ℕ) → origin C t c ≡ Some c → stable C t c ≡ true
 origin_stable C t c e = rw e (eqb_self c)

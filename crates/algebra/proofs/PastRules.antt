@@ -2,7 +2,7 @@
 -- only the columns that it names (`holds_same`) is all that is asked of it.
 use mathlib.Core.Path.{◌≡◌, refl, ap, sym, ◌∙◌, subst}
 use mathlib.Core.Bool.{true}
-use mathlib.Core.Option.{Option, some, none}
+use Rattle.std.specs.Prelude.{Option, Some, None}
 use mathlib.Core.Logic.{inl, inr, ◌↔◌}
 use Prim.Native.Nat.{ℕ, ◌+◌, ◌≤◌}
 use native.Mathlib.Omega.{arith}
@@ -44,32 +44,32 @@ module _ (P : ℕ → Term → Past → Type 0)
     (at-filter : (f g : Condition) (a : Term) → P 11 (filter f (filter g a)) (past_filter f g a))
     (k : ℕ) {m : Past} where
   -- one test of the kind
-  at_kind : (n : ℕ) (a : Term) (x : Past) → P n a x → (o : Option Past) → (o ≡ some m → P k a m) → (when eqb k n then some x else o) ≡ some m → P k a m
+  at_kind : (n : ℕ) (a : Term) (x : Past) → P n a x → (o : Option Past) → (o ≡ Some m → P k a m) → (when eqb k n then Some x else o) ≡ Some m → P k a m
   at_kind n a x h o other e = elim (same? k n) [
     | inl (j, i) ↦ subst (P k a) (some_inj (rw i at e)) (subst (λ (l : ℕ). P l a x) (sym j) h)
     | inr (_, i) ↦ other (rw i at e)
   ]
 
-  in_pair : (f : Condition) (o : Pairing) (a b : Term) → past_pair k f o a b ≡ some m → P k (filter f (pair o a b)) m
+  in_pair : (f : Condition) (o : Pairing) (a b : Term) → past_pair k f o a b ≡ Some m → P k (filter f (pair o a b)) m
   unfolding past_pair
-  in_pair f Union a b e = at_kind 7 _ _ (at-union f a b) none none_some e
-  in_pair f Join a b e = at_kind 8 _ _ (at_left f a b) _ (λ i. at_kind 9 _ _ (at_right f a b) none none_some i) e
-  in_pair f Except a b e = at_kind 10 _ _ (at-except f a b) none none_some e
+  in_pair f Union a b e = at_kind 7 _ _ (at-union f a b) None none_some e
+  in_pair f Join a b e = at_kind 8 _ _ (at_left f a b) _ (λ i. at_kind 9 _ _ (at_right f a b) None none_some i) e
+  in_pair f Except a b e = at_kind 10 _ _ (at-except f a b) None none_some e
 
-  in_filter : (f : Condition) (a : Term) → under_filter k f a ≡ some m → P k (filter f a) m
+  in_filter : (f : Condition) (a : Term) → under_filter k f a ≡ Some m → P k (filter f a) m
   unfolding under_filter
   in_filter f (table t) e = none_some e
   in_filter f (var v) e = none_some e
   in_filter f (fact c w) e = none_some e
   in_filter f (pair o a b) e = in_pair f o a b e
-  in_filter f (filter g a) e = at_kind 11 _ _ (at-filter f g a) none none_some e
+  in_filter f (filter g a) e = at_kind 11 _ _ (at-filter f g a) None none_some e
   in_filter f (copy c d a) e = none_some e
   in_filter f (drop c a) e = none_some e
   in_filter f (last c a) e = none_some e
   in_filter f (fix v a b) e = none_some e
   in_filter f (mu v a) e = none_some e
 
-  pub past_cases : (a : Term) → find_past k a ≡ some m → P k a m
+  pub past_cases : (a : Term) → find_past k a ≡ Some m → P k a m
   unfolding find_past
   past_cases (table t) e = none_some e
   past_cases (var v) e = none_some e
@@ -83,12 +83,12 @@ module _ (P : ℕ → Term → Past → Type 0)
   past_cases (mu v a) e = none_some e
 
 -- what a kind finds is what stands there
-pub past_found : (k : ℕ) (a : Term) {m : Past} → find_past k a ≡ some m → a ≡ past_node m
+pub past_found : (k : ℕ) (a : Term) {m : Past} → find_past k a ≡ Some m → a ≡ past_node m
 past_found k a e =
     past_cases (λ _ b m. b ≡ past_node m) (λ f a b. refl) (λ f a b. refl) (λ f a b. refl) (λ f a b. refl) (λ f g a. refl) k a e
 
 -- kind 7 is the one that adds a node
-pub past_adds : (k : ℕ) (a : Term) {m : Past} → find_past k a ≡ some m → adds_node m ≡ eqb k 7
+pub past_adds : (k : ℕ) (a : Term) {m : Past} → find_past k a ≡ Some m → adds_node m ≡ eqb k 7
 unfolding adds_node
 past_adds k a e =
     past_cases (λ l _ m. adds_node m ≡ eqb l 7) (λ f a b. refl) (λ f a b. refl) (λ f a b. refl) (λ f a b. refl) (λ f g a. refl) k a e
@@ -133,8 +133,8 @@ unfolding Covered
 covered f D h typed x r = each_map (named f) (λ c e. domain_at x D c (typed x r) e) h
 
 first_some : (o p : Option ℕ) → is_some o ≡ true → o ≡ or_else o p
-first_some none p e = true_false (sym e)
-first_some (some a) p e = refl
+first_some None p e = true_false (sym e)
+first_some (Some a) p e = refl
 
 -- a joined row has there what the left one has
 first_same : (f : Condition) (x y : Mapping) → Each (λ c. is_some (x c) ≡ true) (named f) → Each (λ c. x c ≡ combine x y c) (named f)

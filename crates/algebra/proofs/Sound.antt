@@ -1,7 +1,7 @@
 -- The six rules are sound: what a rule writes at a closed node may stand in the node's place.
 use mathlib.Core.Path.{◌≡◌, sym, subst}
 use mathlib.Core.Bool.{true}
-use mathlib.Core.Option.{some}
+use Rattle.std.specs.Prelude.{Some}
 use mathlib.Core.Logic.{◌↔◌}
 use Prim.Native.Nat.{ℕ, ◌≤◌}
 use Rattle.laws.proofs.Lists.{count}
@@ -39,17 +39,17 @@ redex_sound G C m p n e e' =
     }
 
 -- C: the columns of the variable around the node, which a closed node does not depend on
-pub rule_sound : {G : Schema} {a : Term} → Closed G a → Narrow G a → (k : ℕ) (C : Cols) (m : Match) → match k a ≡ some m
+pub rule_sound : {G : Schema} {a : Term} → Closed G a → Narrow G a → (k : ℕ) (C : Cols) (m : Match) → match k a ≡ Some m
     → stable_enough G C m ≡ true → unused_enough G C m ≡ true → Sound G a (written m)
 rule_sound {G} {a} p n k C m found e e' =
     let i = matched k a found in
     subst (λ (b : Term). Sound G b (written m)) (sym i) (redex_sound G C m (subst (Closed G) i p) (subst (Narrow G) i n) e e')
 
 -- at a closed node the other operand is closed
-pub match_closed : {G : Schema} {a : Term} → Closed G a → (k : ℕ) (m : Match) → match k a ≡ some m → closed_enough m ≡ true
+pub match_closed : {G : Schema} {a : Term} → Closed G a → (k : ℕ) (m : Match) → match k a ≡ Some m → closed_enough m ≡ true
 match_closed {G} {a} p k m found = closed_passes m (subst (Closed G) (matched k a found) p)
 
 -- at an open node no rule is accepted: a fix is closed, so kinds 1, 5 and 6 match nothing there, and in 2 to 4 the other operand is the open one
-pub match_open : {G : Schema} {v : ℕ} {D : Cols} {a : Term} → Path G v D a → (k : ℕ) (m : Match) → match k a ≡ some m
+pub match_open : {G : Schema} {v : ℕ} {D : Cols} {a : Term} → Path G v D a → (k : ℕ) (m : Match) → match k a ≡ Some m
     → closed_enough m ≡ true → ⊥
 match_open {G} {v} {D} {a} p k m found e = open_fails m (subst (Path G v D) (matched k a found) p) e

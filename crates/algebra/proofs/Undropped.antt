@@ -1,7 +1,7 @@
 -- Document 01's "A column of the variable is stable if no `drop` on the path names it": such a column is its own origin.
 use mathlib.Core.Path.{◌≡◌, sym, ◌∙◌}
 use mathlib.Core.Bool.{true, false, not, ◌&&◌, ◌||◌}
-use mathlib.Core.Option.{some}
+use Rattle.std.specs.Prelude.{Some}
 use mathlib.Core.Logic.{inl, inr}
 use Prim.Native.Nat.{ℕ}
 use lib.Dec.{eqb}
@@ -32,7 +32,7 @@ module _ (a b : Term) (e : ℕ) (h : (not (is_closed a) && dropped a e) || (not 
   right_undropped : is_closed b ≡ false → dropped b e ≡ false
   right_undropped i = rw i at (or_false_right (not (is_closed a) && dropped a e) (not (is_closed b) && dropped b e) h)
 
-undropped_origin : {G : Schema} {v : ℕ} {C : Cols} {t : Term} → Path G v C t → (e : ℕ) → C e ≡ true → dropped t e ≡ false → origin C t e ≡ some e
+undropped_origin : {G : Schema} {v : ℕ} {C : Cols} {t : Term} → Path G v C t → (e : ℕ) → C e ≡ true → dropped t e ≡ false → origin C t e ≡ Some e
 unfolding origin pair_origin dropped
 undropped_origin p_var e i d = rw i
 undropped_origin (p_union {a = a} {b = b} p q _) e i d =

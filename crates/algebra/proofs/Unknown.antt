@@ -1,7 +1,7 @@
 -- What `max` keeps, and unknown values: "Value 0 stands for unknown".
 use mathlib.Core.Path.{◌≡◌, refl, sym, ◌∙◌, subst}
 use mathlib.Core.Logic.{◌≢◌, ◌↔◌}
-use mathlib.Core.Option.{some}
+use Rattle.std.specs.Prelude.{Some}
 use Prim.Native.Nat.{ℕ, ◌≤◌}
 use Rattle.laws.proofs.Options.{some_inj}
 use Rattle.algebra.specs.declared.Condition.TheVariants.{Max}
@@ -9,7 +9,7 @@ use Rattle.algebra.specs.Mapping.{Mapping}
 use Rattle.algebra.specs.Term.{Term, filter, Holds, Environment, meaning}
 
 -- a row whose column holds x is kept exactly if x is not 0 and at most the bound
-pub max_exact : (T : Environment) (c w x : ℕ) (a : Term) (ρ : Environment) (m : Mapping) → m c ≡ some x
+pub max_exact : (T : Environment) (c w x : ℕ) (a : Term) (ρ : Environment) (m : Mapping) → m c ≡ Some x
     → meaning T (filter (Max c w) a) ρ m ↔ (meaning T a ρ m × ((x ≢ 0) × (x ≤ w)))
 unfolding Holds meaning
 max_exact T c w x a ρ m e = (
@@ -18,5 +18,5 @@ max_exact T c w x a ρ m e = (
 )
 
 -- U2: "A row whose column holds 0 passes no `max`, whatever the bound."
-pub no_unknown : (T : Environment) (c w : ℕ) (a : Term) (ρ : Environment) (m : Mapping) → m c ≡ some 0 → ¬ meaning T (filter (Max c w) a) ρ m
+pub no_unknown : (T : Environment) (c w : ℕ) (a : Term) (ρ : Environment) (m : Mapping) → m c ≡ Some 0 → ¬ meaning T (filter (Max c w) a) ρ m
 no_unknown T c w a ρ m e r = let (_, (known, _)) = (max_exact T c w 0 a ρ m e).0 r in known refl

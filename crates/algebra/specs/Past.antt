@@ -1,6 +1,6 @@
 -- The five rules of document 02's "Filters past the ordinary lines", on terms: what each kind finds, asks and writes. The node is the filter's.
 use Rattle.std.specs.Prelude.{◌≡◌, Bool, true, false, ℕ, eqb}
-use Rattle.std.proofs.Math.Option.{Option, some, none}
+use Rattle.std.specs.Prelude.{Option, Some, None}
 use Rattle.laws.specs.Lists.{when◌then◌else◌, every}
 use Rattle.algebra.specs.declared.Pairing.{Pairing}
 use Rattle.algebra.specs.declared.Pairing.TheVariants.{Union, Join, Except}
@@ -18,35 +18,35 @@ pub data Past : Type 0 where
   past_filter : Condition → Condition → Term → Past  -- "11 exchanges two filters": the upper, the lower
 
 unfoldable pub past_pair : ℕ → Condition → Pairing → Term → Term → Option Past
-past_pair k f Union a b = when eqb k 7 then some (past_union f a b) else none
-past_pair k f Join a b = when eqb k 8 then some (past_left f a b) else (when eqb k 9 then some (past_right f a b) else none)
-past_pair k f Except a b = when eqb k 10 then some (past_except f a b) else none
+past_pair k f Union a b = when eqb k 7 then Some (past_union f a b) else None
+past_pair k f Join a b = when eqb k 8 then Some (past_left f a b) else (when eqb k 9 then Some (past_right f a b) else None)
+past_pair k f Except a b = when eqb k 10 then Some (past_except f a b) else None
 
 -- what kind k finds under a filter
 unfoldable pub under_filter : ℕ → Condition → Term → Option Past
-under_filter k f (table t) = none
-under_filter k f (var v) = none
-under_filter k f (fact c x) = none
+under_filter k f (table t) = None
+under_filter k f (var v) = None
+under_filter k f (fact c x) = None
 under_filter k f (pair o a b) = past_pair k f o a b
-under_filter k f (filter g a) = when eqb k 11 then some (past_filter f g a) else none
-under_filter k f (copy c d a) = none
-under_filter k f (drop c a) = none
-under_filter k f (last c a) = none  -- "`last` is no filter in these rules."
-under_filter k f (fix v a b) = none
-under_filter k f (mu v a) = none
+under_filter k f (filter g a) = when eqb k 11 then Some (past_filter f g a) else None
+under_filter k f (copy c d a) = None
+under_filter k f (drop c a) = None
+under_filter k f (last c a) = None  -- "`last` is no filter in these rules."
+under_filter k f (fix v a b) = None
+under_filter k f (mu v a) = None
 
 -- what kind k finds at a node
 unfoldable pub find_past : ℕ → Term → Option Past
-find_past k (table t) = none
-find_past k (var v) = none
-find_past k (fact c x) = none
-find_past k (pair o a b) = none
+find_past k (table t) = None
+find_past k (var v) = None
+find_past k (fact c x) = None
+find_past k (pair o a b) = None
 find_past k (filter f a) = under_filter k f a
-find_past k (copy c d a) = none
-find_past k (drop c a) = none
-find_past k (last c a) = none  -- "`last` is no filter in these rules."
-find_past k (fix v a b) = none
-find_past k (mu v a) = none
+find_past k (copy c d a) = None
+find_past k (drop c a) = None
+find_past k (last c a) = None  -- "`last` is no filter in these rules."
+find_past k (fix v a b) = None
+find_past k (mu v a) = None
 
 -- "Kind 7 adds a node"
 unfoldable pub adds_node : Past → Bool

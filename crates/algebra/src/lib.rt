@@ -2,7 +2,7 @@
 #![tactic(auto)]
 
 // The two-operand operators: `pair=union`, `pair=join`, `pair=except`.
-#[derive(Clone, Copy)]
+#[derive(Clone, Copy, Debug, PartialEq, Eq)]
 pub enum Pairing {
     Union,
     Join,
@@ -10,7 +10,7 @@ pub enum Pairing {
 }
 
 // What a filter line asks of a row: `eq=C,W`, `ne=C,W`, `max=C,W`, `same=C,D`.
-#[derive(Clone, Copy)]
+#[derive(Clone, Copy, Debug, PartialEq, Eq)]
 pub enum Condition {
     Eq(u32, u32),
     Ne(u32, u32),

@@ -1,7 +1,6 @@
 // How large an allowance is enough: the tests of a run before 17, and the product of document 02 beside the plan.
 #![tactic(auto)]
 
-use database::Verdict;
 use plan::Plan;
 
 mod tests; // tests.rt: 11, the sheet, 16
@@ -10,10 +9,9 @@ mod within; // within.rt: the plan and its product
 pub use tests::runnable;
 pub use within::allowance;
 
-// What a caller is answered; a refusal comes with a blank plan and no budget.
+// What a caller is answered.
 #[derive(Clone, Copy)]
 pub struct Allowed {
     pub plan: Plan,
     pub budget: u32,
-    pub verdict: Verdict,
 }

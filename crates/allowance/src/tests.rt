@@ -6,9 +6,9 @@ ghost use Rattle.query.specs.Lines.{node_limit};
 ghost use Rattle.query.specs.Facts.{checked_value};
 ghost use Rattle.machine.specs.Run.{runnable};
 
-use checking::{check, refusal};
-use database::{Database, Refusal, TABLE_ROWS, Verdict};
-use query::{CheckedQuery, Query};
+use checking::check;
+use database::{Database, Refusal, TABLE_ROWS};
+use query::{Checked, Query};
 
 // "the book (11), the sheet (1 to 10 in order), 16": the split sheet with the facts of its nodes, or the refusal.
 pub fn runnable(
@@ -17,19 +17,12 @@ pub fn runnable(
     store: &[u32],
     limit: usize,
     rows: usize,
-) -> CheckedQuery
+) -> Result<Checked, Refusal>
     ensures { result ≡ checked_value (schema columns database) query (runnable columns (min limit node_limit) query database store.now rows) }
 {
-    let checked = check(query, database, store, limit);
-    let verdict = checked.verdict;
-    let Verdict::Accepted = verdict else {
-        return checked;
-    };
-    if rows == 0 {
-        return refusal(query, Refusal::RowLimit);
+    let checked = check(query, database, store, limit)?;
+    if rows == 0 || TABLE_ROWS < rows {
+        return Err(Refusal::RowLimit);
     }
-    if TABLE_ROWS < rows {
-        return refusal(query, Refusal::RowLimit);
-    }
-    checked
+    Ok(checked)
 }

@@ -2,13 +2,9 @@
 // `engine::answer`; here files are read and the bytes written. A write that fails ends the program with its error.
 #![tactic(auto)]
 
-ghost use Rattle.std.specs.Prelude.{◌≡◌, ◌≤◌, length, take};
-
 use engine::BYTES_TAKEN;
-use output::Written;
-use std::io::Read;
-use std::rt::Files;
-use std::{fs, io};
+use files::read_file;
+use std::io;
 
 // One byte more than is taken, so that a file over the limit is noticed.
 const ROOM: usize = BYTES_TAKEN + 1;
@@ -16,57 +12,22 @@ const ROOM: usize = BYTES_TAKEN + 1;
 // Room for every reply.
 const REPLY: usize = 4096;
 
-// How many bytes were read until the slice is full, the file ends or a read fails.
-fn read_full(file: &mut impl Read, bytes: &mut [u8]) -> usize
-    ensures bound { result ≤ length bytes.new }
-    ensures part { result ≡ length (take result bytes.new) }
-{
-    let mut done = 0;
-    while done < bytes.len() {
-        let n = file.read(&mut bytes[done..]).unwrap_or(0);
-        if n == 0 {
-            break;
-        }
-        done += n;
-    }
-    done
-}
-
-// How many bytes of a file were read: "an unreadable file counts as empty".
-fn read_file(rt: &impl Files, name: &str, bytes: &mut [u8]) -> usize
-    ensures bound { result ≤ length bytes.new }
-    ensures part { result ≡ length (take result bytes.new) }
-{
-    match fs::open(rt, name) {
-        Ok(mut file) => read_full(&mut file, bytes),
-        Err(_) => 0,
-    }
-}
-
-// Writes the first bytes of the reply.
-fn print(rt: &impl Print, reply: &[u8], end: usize) -> io::Result<()> {
-    if reply.len() < end {
-        return Ok(());
-    }
-    rt.write_all(&reply[0..end])
-}
-
 fn main(rt: HostRuntime) -> io::Result<()> {
     let mut sheet = [0u8; ROOM];
-    let sheet_end = read_file(&rt, "sheet.txt", &mut sheet);
     let mut book = [0u8; ROOM];
-    let book_end = read_file(&rt, "book.txt", &mut book);
     let mut steps = [0u8; ROOM];
-    let steps_end = read_file(&rt, "steps.txt", &mut steps);
     let mut out = [0u8; REPLY];
+    let sheet_end = read_file(&rt, "sheet.txt", &mut sheet);
+    let book_end = read_file(&rt, "book.txt", &mut book);
+    let steps_end = read_file(&rt, "steps.txt", &mut steps);
     let written = engine::answer(
         &sheet[..sheet_end],
         &book[..book_end],
         &steps[..steps_end],
         &mut out,
     );
-    let Written::Bytes(end) = written else {
-        return Ok(());
-    };
-    print(&rt, &out, end)
+    match written {
+        Ok(end) if end <= out.len() => rt.write_all(&out[..end]),
+        _ => Ok(()), // every reply has room
+    }
 }

@@ -1,41 +1,39 @@
 -- The lines of a steps file: what is left of them after each.
-use mathlib.Core.Path.{◌≡◌, refl, ap, ◌∙◌}
+use mathlib.Core.Path.{◌≡◌, refl, ap, sym, ◌∙◌}
 use mathlib.Core.Bool.{false}
-use mathlib.Core.Option.{Option, some, none}
+use Rattle.std.specs.Prelude.{Option, Some, None, Result, Ok, Err}
 use mathlib.Core.List.{List, []}
 use Prim.Native.Nat.{ℕ, zero, suc, ◌+◌, ◌-◌, ◌≤◌, ◌<◌}
 use native.Mathlib.Omega.{arith}
 use lib.ListN.{length, drop, drop_of_length-le}
 use lib.Seq.{drop-cons}
 use Rattle.laws.specs.Lists.{null}
+use Rattle.laws.specs.Options.{mapped}
 use Rattle.relation.specs.Rows.{columns}
 use Rattle.database.specs.declared.Database.{Database}
 use Rattle.database.specs.declared.Refusal.{Refusal}
 use Rattle.database.specs.declared.Refusal.TheVariants.{NoMatch}
 use Rattle.database.specs.Refusals.{Reply, refused, accepted, ◌>>=◌}
 use Rattle.query.specs.declared.Query.{Query}
-use Rattle.text.specs.declared.DueStep.TheVariants as step
+use Rattle.text.specs.declared.Step.{Step}
 use Rattle.text.specs.declared.line_reader.Cursor.{Cursor}
-use Rattle.text.specs.Lines.{Rest, KindNode, due, whole, step_line}
-use Rattle.text.specs.Cursors.{cursor, rest_at, due_line}
-use Rattle.text.specs.Replies.{step_due}
-use Rattle.text.proofs.ReaderLawsDue.{due_reply, due_reply_lem, due_behind}
-use Rattle.rewrite.specs.Rewrite.{rewrite}
+use Rattle.text.specs.Lines.{Rest, due, whole, step_line}
+use Rattle.text.specs.Cursors.{cursor, rest_at, due_line, unnumbered}
+use Rattle.text.proofs.ReaderLawsDue.{due_reply, due_reply_lem, due_behind, mapped_none, count_next}
+use Rattle.rewrite.specs.declared.Unchanged.{Unchanged}
+use Rattle.rewrite.specs.Rewrite.{rewrite, told, rewritten}
 use Rattle.answering.specs.Answer.{limits, apply_steps}
 
--- what was read, by what is replied of it
-bad_none : (o : Option (KindNode × Cursor)) → step.Bad ≡ step_due o → o ≡ none
-bad_none none e = refl
-bad_none (some p) e = let z : ◌≡◌ {A = ℕ} 0 1 = cc in absurd (omega arith)
+-- what a step's rewrite replies, by what is told of it
+rewrite_refused : (q : Query) (r : Reply Query) {u : Unchanged} → Err u ≡ rewritten q r → r ≡ refused u.refusal
+rewrite_refused q (refused r) {u} e =
+    let is : u ≡ record { query = q; refusal = r } = cc in
+    ap (λ (x : Unchanged). refused x.refusal) (sym is)
+rewrite_refused q (accepted p) e = let z : ◌≡◌ {A = ℕ} 0 1 = cc in absurd (omega arith)
 
-next_some : (o : Option (KindNode × Cursor)) (k n at : ℕ) → step.Next k n at ≡ step_due o
-    → (c : Cursor) × (o ≡ some (record { kind = k; node = n }, c)) × (c.at ≡ at)
-next_some none k n at e = let z : ◌≡◌ {A = ℕ} 0 1 = cc in absurd (omega arith)
-next_some (some (s, c)) k n at e =
-    let x : s.kind ≡ k = cc in
-    let y : s.node ≡ n = cc in
-    let z : c.at ≡ at = cc in
-    (c, ap (λ m. some (record { kind = m; node = s.node }, c)) x ∙ ap (λ m. some (record { kind = k; node = m }, c)) y, z)
+pub rewrite_accepted : (q : Query) (r : Reply Query) {p : Query} → Ok p ≡ rewritten q r → r ≡ accepted p
+rewrite_accepted q (refused r) e = let z : ◌≡◌ {A = ℕ} 0 1 = cc in absurd (omega arith)
+rewrite_accepted q (accepted p) e = cc
 
 no_lines : (n line : ℕ) (m : List ℕ) → m ≡ [] → (d : Database) (store : List ℕ) (p : Query)
     → apply_steps n (record { line = line; bytes = m }) d store p ≡ accepted p
@@ -59,7 +57,7 @@ module _ (d : Database) (store text : List ℕ) (q : Query) where
     due_none h = x.same ∙ no_lines x.left x.line (drop place text) (drop_of_length-le text h) d store p
 
     -- what a line replies, with n lines at most behind it
-    abbrev behind : ℕ → Reply (KindNode × Rest) → Reply Query
+    abbrev behind : ℕ → Reply (Step × Rest) → Reply Query
     behind n r = r >>= (λ s. rewrite columns limits.nodes p d store s.0.kind s.0.node >>= (λ u. apply_steps n s.1 d store u))
 
     module _ (h : place < length text) where
@@ -72,7 +70,7 @@ module _ (d : Database) (store text : List ℕ) (q : Query) where
           x.same ∙ ap (λ k. apply_steps k s d store p) e ∙ rw (apply_steps, some_bytes)
 
       -- by what is read there
-      read_as : (o : Option (KindNode × Cursor)) → due_line step_line text (cursor place x.line) ≡ o
+      read_as : (o : Option (Step × Cursor)) → due_line step_line text (cursor place x.line) ≡ o
           → (n : ℕ) × (x.left ≡ suc n)
           × (apply_steps (length text) (whole text) d store q ≡ behind n (due_reply step_line text (cursor place x.line) (λ line. NoMatch) o))
       read_as o e =
@@ -83,31 +81,33 @@ module _ (d : Database) (store text : List ℕ) (q : Query) where
             reads (x.left - 1) k ∙ ap (behind (x.left - 1)) (due_reply_lem step_line text c (λ line. NoMatch) ∙ ap (due_reply step_line text c (λ line. NoMatch)) e),
           )
 
-      pub due_bad : ((line : ℕ) → step.Bad ≡ step_due (due_line step_line text (cursor place line)))
+      pub due_bad : ((line : ℕ) → None ≡ mapped unnumbered (due_line step_line text (cursor place line)))
           → apply_steps (length text) (whole text) d store q ≡ refused NoMatch
-      due_bad e = (read_as none (bad_none _ (e x.line))).2
+      due_bad e = (read_as None (mapped_none unnumbered _ (e x.line))).2
 
-      module _ (k n at : ℕ) (e : (line : ℕ) → step.Next k n at ≡ step_due (due_line step_line text (cursor place line))) where
-        found : (c : Cursor) × (due_line step_line text (cursor place x.line) ≡ some (record { kind = k; node = n }, c)) × (c.at ≡ at)
-        found = next_some _ k n at (e x.line)
+      module _ (step : Step) (at : ℕ) (e : (line : ℕ) → Some (step, at) ≡ mapped unnumbered (due_line step_line text (cursor place line))) where
+        found : due_line step_line text (cursor place x.line) ≡ Some (step, cursor at (x.line + 1))
+        found = count_next step_line text (cursor place x.line) step at (e x.line)
 
         pub due_on : place < at
         due_on =
-            let (c, f, g) = found in
-            let (_, later, _) = due_behind step_line text (cursor place x.line) _ f in
+            let (_, later, _) = due_behind step_line text (cursor place x.line) _ found in
             omega arith
 
-        pub due_refused : (r : Refusal) → rewrite columns limits.nodes p d store k n ≡ refused r
+        due_refused : (r : Refusal) → rewrite columns limits.nodes p d store step.kind step.node ≡ refused r
             → apply_steps (length text) (whole text) d store q ≡ refused r
         due_refused r f =
-            let (c, g, _) = found in
-            let (m, _, same) = read_as _ g in
+            let (m, _, same) = read_as _ found in
             same ∙ rw f
 
-        pub due_more : (u : Query) → rewrite columns limits.nodes p d store k n ≡ accepted u → Due d store text q at u
+        -- the refusal of the step's rewrite is told
+        pub due_fails : {x : Result Query Unchanged} → x ≡ rewritten p (rewrite columns limits.nodes p d store step.kind step.node)
+            → {y : Result Query Refusal} → (u : Unchanged) × (x ≡ Err u) × (y ≡ Err u.refusal)
+            → y ≡ told (apply_steps (length text) (whole text) d store q)
+        due_fails is (u, failed, e) = e ∙ ap told (sym (due_refused u.refusal (rewrite_refused p _ (sym failed ∙ is))))
+
+        pub due_more : (u : Query) → rewrite columns limits.nodes p d store step.kind step.node ≡ accepted u → Due d store text q at u
         due_more u f =
-            let (c, g, a) = found in
-            let (m, e, same) = read_as _ g in
+            let (m, e, same) = read_as _ found in
             let on = due_on in
-            let rest : rest_at text c ≡ rest_at text (cursor at c.line) = ap (λ y. rest_at text (cursor y c.line)) a in
-            record { left = m; line = c.line; room = omega (arith, x.room); same = same ∙ rw f (ap (λ y. apply_steps m y d store u) rest) }
+            record { left = m; line = x.line + 1; room = omega (arith, x.room); same = same ∙ rw f }

@@ -1,33 +1,16 @@
--- What `answer` prints from each of its stages on: "It tests file lengths, the book, the sheet, each steps line in turn, then runs".
-use Rattle.std.specs.Prelude.{◌≡◌, List, ℕ, ◌≤◌, length}
+-- What `answer` replies from each of its stages on: "It tests file lengths, the book, the sheet, each steps line in turn, then runs".
+use Rattle.std.specs.Prelude.{List, ℕ, length}
 use Rattle.relation.specs.Rows.{columns}
 use Rattle.database.specs.declared.Database.{Database}
-use Rattle.database.specs.declared.Refusal.{Refusal}
-use Rattle.database.specs.declared.Refusal.TheVariants.{NoMatch}
-use Rattle.database.specs.declared.Verdict.{Verdict}
-use Rattle.database.specs.declared.Verdict.TheVariants.{Accepted, Refused}
 use Rattle.database.specs.Stored.{schema, table_rows}
 use Rattle.database.specs.Refusals.{Reply, accepted, ◌>>=◌}
 use Rattle.query.specs.declared.Query.{Query}
 use Rattle.query.specs.Check.{check_over}
-use Rattle.output.specs.declared.Written.{Written}
 use Rattle.text.specs.Lines.{whole}
 use Rattle.text.specs.Texts.{read_nodes, query_value, database_value}
 use Rattle.text.specs.Replies.{load_tables, store_after}
-use Rattle.output.specs.Replies.{write_reply, slice_after}
-use Rattle.machine.specs.declared.Outcome.{Outcome}
-use Rattle.machine.specs.declared.Outcome.TheVariants as outcome
 use Rattle.machine.specs.Run.{Answer, execute}
 use Rattle.answering.specs.Answer.{limits, taken, apply_steps, empty_store}
-
--- the cause of a refusal; an acceptance has none
-abbrev pub cause_of : Verdict → Refusal
-cause_of Accepted = NoMatch
-cause_of (Refused r) = r
-
-abbrev pub outcome_cause : Outcome → Refusal
-outcome_cause (outcome.Finished rows ran) = NoMatch
-outcome_cause (outcome.Refused r) = r
 
 -- "then runs"
 abbrev pub answer_run : Database → List ℕ → Query → Reply Answer
@@ -62,9 +45,3 @@ answer_book sheet book steps = do
 -- the bytes that `answer` lends for its reply
 abbrev pub reply_room : ℕ
 reply_room = 4096
-
--- a text is written into a lent slice: what is replied, and what the slice holds afterwards; the text fits into what `answer` lends
-pub record Writes (text before : List ℕ) (r : Written) (after : List ℕ) : Type 0 where
-  pub reply : r ≡ write_reply text before
-  pub slice : after ≡ slice_after text before
-  pub fits : length text ≤ reply_room

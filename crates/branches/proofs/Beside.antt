@@ -1,6 +1,6 @@
 -- Two nodes that have no line in common: a term of the same size and columns put in the place of one leaves the other where it is, with the same columns around.
 use mathlib.Core.Path.{◌≡◌, refl, ap, sym, ◌∙◌}
-use mathlib.Core.Option.{Option, some, none}
+use Rattle.std.specs.Prelude.{Option, Some, None}
 use mathlib.Core.List.{List, [], ◌++◌, append_assoc}
 use Prim.Native.Nat.{ℕ, ◌+◌, ◌-◌, ◌≤◌}
 use native.Mathlib.Omega.{arith}
@@ -54,7 +54,7 @@ front_flat t p rest e =
 
 module _ {a : Term} {n : ℕ} {t : Term} (h : Inside a n t) (b : Term) (same : size b ≡ size a) where
   -- the other node is still there
-  beside : {a' : Term} {n' : ℕ} → Ended (lines t) n' a' → Clear n (size a) n' (size a') → ended_at (lines (puts h b)) n' ≡ some a'
+  beside : {a' : Term} {n' : ℕ} → Ended (lines t) n' a' → Clear n (size a) n' (size a') → ended_at (lines (puts h b)) n' ≡ Some a'
   beside {a'} {n'} x (first c) =
       let p = (place h).at in
       let f = p.ends in
@@ -90,13 +90,13 @@ module _ {a : Term} {n : ℕ} {t : Term} (h : Inside a n t) (b : Term) (same : s
       ∙ ap (λ (l : List Node). ended_at l n') (sym p.whole) ∙ ended_found x
 
   -- and where there was none there is none
-  pub same_ended : (n' : ℕ) → ((a' : Term) → ended_at (lines t) n' ≡ some a' → Clear n (size a) n' (size a')) → ended_at (lines (puts h b)) n' ≡ ended_at (lines t) n'
+  pub same_ended : (n' : ℕ) → ((a' : Term) → ended_at (lines t) n' ≡ Some a' → Clear n (size a) n' (size a')) → ended_at (lines (puts h b)) n' ≡ ended_at (lines t) n'
   same_ended n' clear = by_node (ended_at (lines t) n') refl (ended_at (lines (puts h b)) n') refl
     where
       by_node : (o : Option Term) → ended_at (lines t) n' ≡ o → (o' : Option Term) → ended_at (lines (puts h b)) n' ≡ o' → o' ≡ o
-      by_node (some a') e o' e' = sym e' ∙ beside (found_ended e) (clear a' e)
-      by_node none e none e' = refl
-      by_node none e (some c) e' =
+      by_node (Some a') e o' e' = sym e' ∙ beside (found_ended e) (clear a' e)
+      by_node None e None e' = refl
+      by_node None e (Some c) e' =
           let x = found_ended e' in
           let f = x.ends in
           let y = node_inside t n' (omega (arith, size_positive c)) (omega (arith, ended_length x, size_lines (puts h b), puts_size h b same)) in

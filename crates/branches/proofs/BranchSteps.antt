@@ -1,7 +1,7 @@
 -- What an accepted step of kinds 1 to 6 leaves of a checked sheet: the rule's term stands in the place of the node's, with its size and columns, and the new sheet is checked
 -- again. So a step at a node that has no line in common with it finds the same term and the same columns around, and replies and writes what it did.
 use mathlib.Core.Path.{◌≡◌, refl, ap, ap₂, sym, ◌∙◌, subst}
-use mathlib.Core.Option.{Option, some, none}
+use Rattle.std.specs.Prelude.{Option, Some, None}
 use mathlib.Core.List.{List, ◌++◌, append_assoc}
 use Prim.Native.Nat.{ℕ, ◌+◌, ◌-◌, ◌≤◌}
 use native.Mathlib.Omega.{arith}
@@ -103,20 +103,20 @@ module _ (w limit : ℕ) (d : Database) (store : List ℕ) where
       by_node : (o : Option Term)
           → or_refuse o NoMatch >>= (λ a. rule G (around G no_cols t n) k a >>= (λ b. accepted (with_nodes q (replaced (lines t) n a b))))
           ≡ applied k (around G no_cols t n) o >>= hand q (lines t) n
-      by_node none = refl
-      by_node (some a) = by_rule a (rule G (around G no_cols t n) k a)
+      by_node None = refl
+      by_node (Some a) = by_rule a (rule G (around G no_cols t n) k a)
 
   record RuleApplied (k : ℕ) (C : Cols) (o : Option Term) (a b : Term) : Type 0 where
-    at : o ≡ some a
+    at : o ≡ Some a
     rules : rule G C k a ≡ accepted b
 
   applied_parts : (k : ℕ) (C : Cols) (o : Option Term) (a b : Term) → applied k C o ≡ accepted (a, b) → RuleApplied k C o a b
-  applied_parts k C none a b e = accepted_refused (sym e)
-  applied_parts k C (some x) a b e =
+  applied_parts k C None a b e = accepted_refused (sym e)
+  applied_parts k C (Some x) a b e =
       let (y, f, g) = accepted_then (rule G C k x) (λ b. accepted (x, b)) e in
       let i : x ≡ a = ap (λ (p : Writes). p.0) (accepted_same g) in
       let j : y ≡ b = ap (λ (p : Writes). p.1) (accepted_same g) in
-      record { at = ap some i; rules = subst (λ (z : Term). rule G C k z ≡ accepted b) i (f ∙ ap accepted j) }
+      record { at = ap Some i; rules = subst (λ (z : Term). rule G C k z ≡ accepted b) i (f ∙ ap accepted j) }
 
   module _ (q : Query) (t : Term) (over : check_over w limit q d store ≡ accepted t) where
     -- what the step of kind k at node n finds and writes
@@ -150,7 +150,7 @@ module _ (w limit : ℕ) (d : Database) (store : List ℕ) where
         }
 
     -- two nodes that are apart have no line in common
-    clear_nodes : (n n' : ℕ) (a a' : Term) → ended_at (lines t) n ≡ some a → ended_at (lines t) n' ≡ some a' → Apart q n n' → Clear n (size a) n' (size a')
+    clear_nodes : (n n' : ℕ) (a a' : Term) → ended_at (lines t) n ≡ Some a → ended_at (lines t) n' ≡ Some a' → Apart q n n' → Clear n (size a) n' (size a')
     clear_nodes n n' a a' e e' x =
         let same = split_lines_lem w limit q d store t over in
         apart_clear q n n' a a' (ap (λ (ns : List Node). ended_at ns n) same ∙ e) (ap (λ (ns : List Node). ended_at ns n') same ∙ e') x
@@ -162,14 +162,14 @@ module _ (w limit : ℕ) (d : Database) (store : List ℕ) where
 
       -- and so do the columns around it: the other step finds and writes the same
       same_applied : (k' : ℕ) (o : Option Term) → ended_at (lines t) n' ≡ o → applied k' (around G no_cols (puts l.here b) n') o ≡ applied k' (around G no_cols t n') o
-      same_applied k' none e = refl
-      same_applied k' (some a') e =
+      same_applied k' None e = refl
+      same_applied k' (Some a') e =
           let low = own_lines (found_inside t n' a' e) in
           let clear : Clear n (size a) n' 1 = elim (clear_nodes n n' a a' (inside_found l.here) e x) [
             | first c ↦ first (omega (arith, size_positive a'))
             | last c ↦ last c
           ] in
-          ap (λ (C : Cols). applied k' C (some a'))
+          ap (λ (C : Cols). applied k' C (Some a'))
           (around_beside G b l.same_columns l.same_size l.here no_cols n' (omega (arith, size_positive a')) clear)
 
       after : (k' : ℕ) → k' ≤ 6 → rewrite w limit (with_nodes q (replaced (lines t) n a b)) d store k' n'

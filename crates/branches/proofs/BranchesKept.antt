@@ -1,7 +1,7 @@
 -- A step on one of two branches leaves both where they are: each keeps its stretch of lines.
 use mathlib.Core.Path.{◌≡◌, refl, ap, sym, ◌∙◌, subst}
 use mathlib.Core.Logic.{◌↔◌}
-use mathlib.Core.Option.{some}
+use Rattle.std.specs.Prelude.{Some}
 use mathlib.Core.List.{List}
 use Prim.Native.Nat.{ℕ, ◌≤◌}
 use native.Mathlib.Omega.{arith}
@@ -31,7 +31,7 @@ same_stretch q m i = ((λ s. s), (λ s. s))
 by_ended : {q p : Query} {m : ℕ} → ended_at (split_lines q) m ≡ ended_at (split_lines p) m → (i : ℕ) → Stretch q m i → Stretch p m i
 by_ended e i s = record { node = s.node; ends = sym e ∙ s.ends; from = s.from; to = s.to }
 
-by_size : {q p : Query} {m : ℕ} {a b : Term} → ended_at (split_lines q) m ≡ some a → ended_at (split_lines p) m ≡ some b → size a ≡ size b
+by_size : {q p : Query} {m : ℕ} {a b : Term} → ended_at (split_lines q) m ≡ Some a → ended_at (split_lines p) m ≡ Some b → size a ≡ size b
     → (i : ℕ) → Stretch q m i → Stretch p m i
 by_size {b = b} e f g i s =
     let h : size s.node ≡ size b = ap size (some_inj (sym s.ends ∙ e)) ∙ g in
@@ -61,7 +61,7 @@ module _ (w limit : ℕ) (d : Database) (store : List ℕ) (q : Query) (m n : �
     part : Inside a (index q m n s) s.node
     part = stretch_inside q m n s a (ap (λ (ns : List Node). ended_at ns n) split_before ∙ inside_found l.here)
 
-    own_ended : ended_at (split_lines p) m ≡ some (puts part b)
+    own_ended : ended_at (split_lines p) m ≡ Some (puts part b)
     own_ended =
         ap (λ (ns : List Node). ended_at ns m) (split_after ∙ puts_lines l.here b ∙ ap (λ (ns : List Node). replaced ns n a b) (sym split_before))
         ∙ ended_found (ended_over n (found_ended s.ends) part (index_place q m n s) b l.same_size)

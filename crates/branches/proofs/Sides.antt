@@ -5,7 +5,7 @@ use mathlib.Core.List.{List, [], ◌∷◌}
 use Prim.Native.Nat.{ℕ, ◌≤◌}
 use Rattle.laws.proofs.EachMember.{Each, each_map}
 use Rattle.database.specs.declared.Database.{Database}
-use Rattle.database.specs.declared.Verdict.{Verdict}
+use Rattle.database.specs.Refusals.{Verdict}
 use Rattle.query.specs.declared.Query.{Query}
 use Rattle.rewrite.specs.Rewrite.{Step, held}
 use Rattle.branches.specs.Branches.{Apart, stepped, Given, Commute, OnBranch, Interleaved, nothing, from_first, from_second, told}

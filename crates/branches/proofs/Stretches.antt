@@ -1,7 +1,7 @@
 -- Nodes of a raw sheet by their stretches of lines: two different nodes, of which neither lies under the other, have no line in common, and only they.
 use mathlib.Core.Path.{◌≡◌, sym, ◌∙◌, subst}
 use mathlib.Core.Logic.{◌↔◌, ◌≢◌}
-use mathlib.Core.Option.{some}
+use Rattle.std.specs.Prelude.{Some}
 use Prim.Native.Nat.{ℕ, ◌+◌, ◌-◌}
 use native.Mathlib.Omega.{arith}
 use native.Mathlib.Decide.{dec_lt}
@@ -20,7 +20,7 @@ apart_sym x = record { different = λ e. x.different (sym e); not_under = x.not_
 
 module _ (q : Query) where
   -- two nodes that are apart have no line in common
-  pub apart_clear : (m n : ℕ) (a b : Term) → ended_at (split_lines q) m ≡ some a → ended_at (split_lines q) n ≡ some b → Apart q m n → Clear m (size a) n (size b)
+  pub apart_clear : (m n : ℕ) (a b : Term) → ended_at (split_lines q) m ≡ Some a → ended_at (split_lines q) n ≡ Some b → Apart q m n → Clear m (size a) n (size b)
   apart_clear m n a b e f x = elim (dec_lt m n) [
     | yes h ↦ elim (dec_lt n (m + size b)) [
       | yes i ↦ absurd (x.not_under (record { other = x.different; among = record { node = b; ends = f; from = omega arith; to = omega arith } }))
@@ -43,10 +43,10 @@ module _ (q : Query) where
     there : Found index s.node
     there = node_inside s.node index (let h = s.from in omega arith) (let h = s.from in let k = s.to in omega arith)
 
-    there_ends : ended_at (split_lines q) n ≡ some there.node
+    there_ends : ended_at (split_lines q) n ≡ Some there.node
     there_ends = ended_found (ended_under (found_ended s.ends) there.inside index_place)
 
-    pub stretch_inside : (a : Term) → ended_at (split_lines q) n ≡ some a → Inside a index s.node
+    pub stretch_inside : (a : Term) → ended_at (split_lines q) n ≡ Some a → Inside a index s.node
     stretch_inside a e = subst (λ (c : Term). Inside c index s.node) (some_inj (sym there_ends ∙ e)) there.inside
 
     -- it is a node, so it is in its own stretch
@@ -73,10 +73,10 @@ module _ (q : Query) where
         let k = s.to in
         let k' = s'.to in
         elim clear [ first c ↦ omega arith | last c ↦ omega arith ]),
-    (λ none. record {
+    (λ None. record {
       different = different;
-      not_under = λ u. none m (own_stretch n m u.among) u.among;
-      not_over = λ u. none n u.among (own_stretch m n u.among);
+      not_under = λ u. None m (own_stretch n m u.among) u.among;
+      not_over = λ u. None n u.among (own_stretch m n u.among);
     }),
   )
 

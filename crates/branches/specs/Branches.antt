@@ -1,11 +1,11 @@
 -- Document 02's "Two editors on two branches": which nodes lie on two branches, what it is for two steps there to commute, and the lists of steps that two
 -- editors make by turns. w is the number of columns.
 use Rattle.std.specs.Prelude.{◌≡◌, ◌↔◌, ◌≢◌, List, [], ◌∷◌, ℕ, ◌+◌, ◌≤◌, ◌<◌}
-use Rattle.std.proofs.Math.Option.{some}
+use Rattle.std.specs.Prelude.{Some}
 use Rattle.algebra.specs.Term.{Term}
 use Rattle.algebra.specs.Columns.{size}
 use Rattle.database.specs.declared.Database.{Database}
-use Rattle.database.specs.declared.Verdict.{Verdict}
+use Rattle.database.specs.Refusals.{Verdict}
 use Rattle.database.specs.Refusals.{verdict, ◌>>=◌}
 use Rattle.query.specs.declared.Node.{Node}
 use Rattle.query.specs.declared.Query.{Query}
@@ -20,7 +20,7 @@ split_lines q = nodes (split_of q (term_of (nodes q) >>= split_term))
 -- line i is one of those that end at node n, which are as many as the term there has nodes
 pub record Stretch (q : Query) (n i : ℕ) : Type 0 where
   pub node : Term
-  pub ends : ended_at (split_lines q) n ≡ some node
+  pub ends : ended_at (split_lines q) n ≡ Some node
   pub from : n < i + size node
   pub to : i ≤ n
 

@@ -4,7 +4,7 @@ use Prim.Native.Char.{Char, code}
 use Prim.Native.String.{[] as end, ◌∷◌ as ◌then◌}
 use mathlib.Core.Path.{◌≡◌, refl}
 use mathlib.Core.Bool.{Bool, true, false}
-use mathlib.Core.Option.{some, none}
+use Rattle.std.specs.Prelude.{Some, None}
 use lib.Dec.{eqb}
 use Rattle.laws.specs.Lists.{when◌then◌else◌}
 use Rattle.laws.specs.Options.{mapped, present}
@@ -19,7 +19,7 @@ pub letter_in : (b : ℕ) → is_in lower_case b ≡ within 97 122 b
 unfolding runs
 letter_in b = in_range_lem lower_case 97 122 b refl
 
-pub digit_placed : (b d : ℕ) → place_in decimal b ≡ some d → (48 ≤ b) × ((b ≤ 57) × (d ≡ b - 48))
+pub digit_placed : (b d : ℕ) → place_in decimal b ≡ Some d → (48 ≤ b) × ((b ≤ 57) × (d ≡ b - 48))
 unfolding runs
 digit_placed b d h = placed decimal 48 57 b d refl h
 
@@ -28,6 +28,6 @@ pub sign_in : (c : Char) (b : ℕ) → is_in (c then end) b ≡ eqb b (code c)
 unfolding place_in
 sign_in c b = by_test (eqb b (code c))
   where
-    by_test : (t : Bool) → present (when t then some zero else mapped suc none) ≡ t
+    by_test : (t : Bool) → present (when t then Some zero else mapped suc None) ≡ t
     by_test true = refl
     by_test false = refl

@@ -6,7 +6,7 @@ use Prim.Native.String.{String, [] as end, ◌∷◌ as ◌then◌}
 use mathlib.Core.Path.{◌≡◌, refl, ap, sym, ◌∙◌}
 use mathlib.Core.Bool.{Bool, true, false, ◌&&◌, and-false}
 use mathlib.Core.Logic.{◌⊎◌, inl, inr, ⊎_elim}
-use mathlib.Core.Option.{some, none}
+use Rattle.std.specs.Prelude.{Some, None}
 use native.Mathlib.Omega.{arith}
 use borrow.Author.Tests.{le-leb, lt-leb, leb-true, leb-false, eqb-true, eq-eqb, ne_eqb}
 use lib.Dec.{eqb, leb}
@@ -55,7 +55,7 @@ run_grows (c then s) a z e = omega (arith, run_grows s (suc a) z (and_true_right
 other : (c : Char) (a b : ℕ) (t : Bool) → eqb (code c) a && t ≡ true → (b ≡ a → ⊥) → eqb b (code c) ≡ false
 other c a b t e h = ne_eqb b (code c) (λ q. h (q ∙ eqb-true (code c) a (and_true_left _ t e)))
 
-place_outside : (s : String) (a z b : ℕ) → runs a z s ≡ true → ((b < a) ⊎ (z ≤ b)) → place_in s b ≡ none
+place_outside : (s : String) (a z b : ℕ) → runs a z s ≡ true → ((b < a) ⊎ (z ≤ b)) → place_in s b ≡ None
 unfolding runs place_in
 place_outside end a z b e h = refl
 place_outside (c then s) a z b e h =
@@ -64,19 +64,19 @@ place_outside (c then s) a z b e h =
     rw (other c a b _ e (λ q. ⊎_elim (λ k. omega (arith, q, k)) (λ k. omega (arith, q, k, long)) h))
     (ap (mapped suc) (place_outside s (suc a) z b later (⊎_elim (λ k. inl (omega (arith, k))) (λ k. inr k) h)))
 
-place_inside : (s : String) (a z b : ℕ) → runs a z s ≡ true → a ≤ b → b < z → place_in s b ≡ some (b - a)
+place_inside : (s : String) (a z b : ℕ) → runs a z s ≡ true → a ≤ b → b < z → place_in s b ≡ Some (b - a)
 unfolding runs place_in
 place_inside end a z b e h k = absurd (omega (arith, h, k, eqb-true a z e))
 place_inside (c then s) a z b e h k =
     let first = eqb-true (code c) a (and_true_left _ (runs (suc a) z s) e) in
     let later = and_true_right (eqb (code c) a) _ e in
     elim (same? b a) [
-      | inl (q, _) ↦ rw (eq-eqb b (code c) (q ∙ sym first)) (ap some (omega (arith, q)))
-      | inr (q, _) ↦ rw (other c a b _ e q) (ap (mapped suc) (place_inside s (suc a) z b later (omega (arith, h, q)) k) ∙ ap some (omega (arith, h, q)))
+      | inl (q, _) ↦ rw (eq-eqb b (code c) (q ∙ sym first)) (ap Some (omega (arith, q)))
+      | inr (q, _) ↦ rw (other c a b _ e q) (ap (mapped suc) (place_inside s (suc a) z b later (omega (arith, h, q)) k) ∙ ap Some (omega (arith, h, q)))
     ]
 
 -- the place of a byte in a text that is a range
-pub place : (s : String) (a z b : ℕ) → runs a (suc z) s ≡ true → place_in s b ≡ (when within a z b then some (b - a) else none)
+pub place : (s : String) (a z b : ℕ) → runs a (suc z) s ≡ true → place_in s b ≡ (when within a z b then Some (b - a) else None)
 place s a z b e = elim (range? a z b) [
   | inl (h, k) ↦ rw (inside a z b h k) (place_inside s a (suc z) b e h (omega (arith, k)))
   | inr h ↦ rw (outside a z b h) (place_outside s a (suc z) b e (⊎_elim (λ k. inl k) (λ k. inr (omega (arith, k))) h))
@@ -85,14 +85,14 @@ place s a z b e = elim (range? a z b) [
 pub in_range_lem : (s : String) (a z b : ℕ) → runs a (suc z) s ≡ true → is_in s b ≡ within a z b
 in_range_lem s a z b e = ap present (place s a z b e) ∙ by_test (within a z b)
   where
-    by_test : (t : Bool) → present (when t then some (b - a) else none) ≡ t
+    by_test : (t : Bool) → present (when t then Some (b - a) else None) ≡ t
     by_test true = refl
     by_test false = refl
 
 -- a byte that has a place
-pub placed : (s : String) (a z b d : ℕ) → runs a (suc z) s ≡ true → place_in s b ≡ some d → (a ≤ b) × ((b ≤ z) × (d ≡ b - a))
+pub placed : (s : String) (a z b d : ℕ) → runs a (suc z) s ≡ true → place_in s b ≡ Some d → (a ≤ b) × ((b ≤ z) × (d ≡ b - a))
 placed s a z b d e h = by_test (within a z b) refl (sym (place s a z b e) ∙ h)
   where
-    by_test : (t : Bool) → within a z b ≡ t → (when t then some (b - a) else none) ≡ some d → (a ≤ b) × ((b ≤ z) × (d ≡ b - a))
+    by_test : (t : Bool) → within a z b ≡ t → (when t then Some (b - a) else None) ≡ Some d → (a ≤ b) × ((b ≤ z) × (d ≡ b - a))
     by_test true w q = let (k, l) = ends a z b w in (k, (l, sym (some_inj q)))
     by_test false w q = none_some q

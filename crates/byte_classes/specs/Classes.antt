@@ -1,6 +1,6 @@
 -- The classes of bytes (02, U7): the class of a byte by its range, and what belongs to a class by its characters.
 use Rattle.std.specs.Prelude.{◌≡◌, Bool, true, not, ◌&&◌, List, [], ◌∷◌, ℕ, zero, suc, ◌-◌, eqb, leb}
-use Rattle.std.proofs.Math.Option.{Option, some, none}
+use Rattle.std.specs.Prelude.{Option, Some, None}
 use Prim.Native.Char.{code}
 use Prim.Native.String.{String, [] as end, ◌∷◌ as ◌then◌}
 use Rattle.laws.specs.Lists.{when◌then◌else◌, every}
@@ -23,8 +23,8 @@ class_of b =
 
 -- the place of a byte among the characters of a text, from 0
 unfoldable pub place_in : String → ℕ → Option ℕ
-place_in end b = none
-place_in (c then s) b = when eqb b (code c) then some zero else mapped suc (place_in s b)
+place_in end b = None
+place_in (c then s) b = when eqb b (code c) then Some zero else mapped suc (place_in s b)
 
 abbrev pub is_in : String → ℕ → Bool
 is_in s b = present (place_in s b)
@@ -41,7 +41,7 @@ classed = decimal ∷ (lower_case ∷ ("," ∷ ("=" ∷ ("\n" ∷ []))))
 
 -- "the one class it belongs to: digit, lower-case letter, comma, equals sign, line end or other"
 unfoldable pub Belongs : ℕ → ByteClass → Type 0
-Belongs b (Digit value) = place_in decimal b ≡ some value
+Belongs b (Digit value) = place_in decimal b ≡ Some value
 Belongs b Letter = is_in lower_case b ≡ true
 Belongs b Comma = is_in "," b ≡ true
 Belongs b Equals = is_in "=" b ≡ true

@@ -9,7 +9,7 @@ ghost use Rattle.byte_classes.specs.Codes.{code_of};
 const SEVERAL: u8 = 13;
 
 // "digit, lower-case letter, comma, equals sign, line end or other". A digit comes with its value, so that no reader takes it from the byte.
-#[derive(Clone, Copy)]
+#[derive(Clone, Copy, Debug, PartialEq, Eq)]
 pub enum ByteClass {
     Digit(u8),
     Letter,

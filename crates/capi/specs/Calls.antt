@@ -1,10 +1,10 @@
 -- What the calls over flat slices reply, and what the slices hold afterwards. limit is the highest node count.
-use Rattle.std.specs.Prelude.{Bool, ◌&&◌, List, ℕ, leb, length}
+use Rattle.std.specs.Prelude.{◌≡◌, Bool, ◌&&◌, List, ℕ, leb, length}
 use Rattle.algebra.specs.Term.{Term}
 use Rattle.relation.specs.Rows.{columns}
 use Rattle.database.specs.declared.Database.{Database}
 use Rattle.database.specs.declared.Refusal.TheVariants.{ShortSlice}
-use Rattle.database.specs.Refusals.{Reply, refused, accepted, require, ◌>>=◌}
+use Rattle.database.specs.Refusals.{Verdict, Reply, refused, accepted, verdict, require, ◌>>=◌}
 use Rattle.query.specs.declared.Node.{Node}
 use Rattle.query.specs.declared.Query.{Query}
 use Rattle.query.specs.Check.{check_over}
@@ -36,6 +36,10 @@ with_room query database n out f = with_flat query database (λ q d. room_for n 
 abbrev pub after : {A : Type 0} → (A → List ℕ) → Reply A → List ℕ → List ℕ
 after f (refused r) s = s
 after f (accepted a) s = over (f a) s
+
+-- what a call tells, before it is a number, and what a slice that held s holds afterwards
+abbrev pub Told : {A : Type 0} → (A → List ℕ) → List ℕ → Reply A → Verdict → List ℕ → Type 0
+Told f s reply told left = (told ≡ verdict reply) × (left ≡ after f reply s)
 
 -- reading a sheet's text into a flat query
 abbrev pub read_flat : ℕ → List ℕ → List ℕ → Reply (List Node)

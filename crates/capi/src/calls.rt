@@ -1,35 +1,27 @@
 // The calls: each decodes its flat slices, calls the engine once, and encodes what that replies.
-ghost use Rattle.std.specs.Prelude.{◌≡◌, List, min, ◌≤◌, length};
-ghost use Rattle.database.specs.Refusals.{Reply, verdict};
-ghost use Rattle.query.specs.declared.Node.{Node};
+ghost use Rattle.std.specs.Prelude.{◌≡◌, min};
+ghost use Rattle.database.specs.Refusals.{verdict};
 ghost use Rattle.query.specs.Lines.{node_limit};
-ghost use Rattle.text.specs.Replies.{query_reply, store_after};
+ghost use Rattle.text.specs.Replies.{store_after};
 ghost use Rattle.machine.specs.Run.{workspace_after, answer_after};
-ghost use Rattle.flat.specs.Flat.{status, query_room, flat_nodes, flat_query, flat_run, flat_slots, flat_plan, flat_budget};
-ghost use Rattle.capi.specs.Calls.{after, read_flat, path_flat, load_flat, flat_tables, check_flat, rewrite_flat, begin_flat, run_flat, compile_flat, allowance_flat};
+ghost use Rattle.flat.specs.Flat.{status, flat_nodes, flat_query, flat_run, flat_slots, flat_plan, flat_budget};
+ghost use Rattle.capi.specs.Calls.{after, Told, read_flat, path_flat, load_flat, flat_tables, check_flat, rewrite_flat, begin_flat, run_flat, compile_flat, allowance_flat};
 
-use database::Verdict;
+use database::Refusal;
 use flat::{
     ALLOWANCE_ROOM, DATABASE_ROOM, PLAN_ROOM, QUERY_ROOM, RUN_ROOM, decode_database, decode_query,
-    encode_database, encode_query, encode_run, have_room, outcome_status, short_slice, status,
+    encode_database, encode_query, encode_run, have_room, room_for, status,
 };
 use flat_plans::encode_plan;
-use machine::Outcome;
-use path_queries::read_path;
-use text::ReadQuery;
 
-// What was read, as a flat query; a refusal leaves the slice as it was.
-fn encode_read(read: ReadQuery, query: &mut [u32]) -> u64
-    requires { query_room ≤ length query.old }
-    ensures { (x : Reply (List Node)) → read ≡ query_reply x
-        → (result ≡ status (verdict x)) × (query.new ≡ after flat_nodes x query.old) }
+#[tactic(auto, using(text::proofs::QueryValue::nodes_value))]
+fn read_query(text: &[u8], limit: usize, query: &mut [u32]) -> Result<(), Refusal>
+    ensures { Told flat_nodes query.old (read_flat (min limit node_limit) text.now query.old) result query.new }
 {
-    let verdict = read.verdict;
-    let Verdict::Accepted = verdict else {
-        return status(verdict);
-    };
-    encode_query(read.query, query);
-    0
+    room_for(QUERY_ROOM, query)?;
+    let read = reading::read_query(text, limit)?;
+    encode_query(read, query);
+    Ok(())
 }
 
 // Reads a sheet's text into a flat query.
@@ -38,10 +30,23 @@ pub extern "C" fn capeshard_read_query(text: &[u8], limit: usize, query: &mut [u
     ensures { (result ≡ status (verdict (read_flat (min limit node_limit) text.now query.old)))
         × (query.new ≡ after flat_nodes (read_flat (min limit node_limit) text.now query.old) query.old) }
 {
-    if query.len() < QUERY_ROOM {
-        return short_slice();
-    }
-    encode_read(reading::read_query(text, limit), query)
+    status(read_query(text, limit, query))
+}
+
+#[tactic(auto, using(text::proofs::QueryValue::nodes_value))]
+fn read_path(
+    path: &[u8],
+    database: &[u32],
+    store: &[u32],
+    limit: usize,
+    query: &mut [u32],
+) -> Result<(), Refusal>
+    ensures { Told flat_nodes query.old (path_flat (min limit node_limit) path.now database.now store.now query.old) result query.new }
+{
+    have_room(query, database)?;
+    let read = path_queries::read_path(path, decode_database(database), store, limit)?;
+    encode_query(read, query);
+    Ok(())
 }
 
 // Reads a property path over a flat database and its store into a flat query.
@@ -56,11 +61,18 @@ pub extern "C" fn capeshard_read_path(
     ensures { (result ≡ status (verdict (path_flat (min limit node_limit) path.now database.now store.now query.old)))
         × (query.new ≡ after flat_nodes (path_flat (min limit node_limit) path.now database.now store.now query.old) query.old) }
 {
-    if !have_room(query, database) {
-        return short_slice();
-    }
-    let read = read_path(path, decode_database(database), store, limit);
-    encode_read(read, query)
+    status(read_path(path, database, store, limit, query))
+}
+
+#[tactic(auto, using(laws::proofs::FlatMaps::flat_map_none))]
+fn read_database(text: &[u8], database: &mut [u32], store: &mut [u32]) -> Result<(), Refusal>
+    ensures { Told flat_tables database.old (load_flat text.now database.old store.old) result database.new
+        × (store.new ≡ store_after (load_flat text.now database.old store.old) store.old) }
+{
+    room_for(DATABASE_ROOM, database)?;
+    let read = loading::read_database(text, store)?;
+    encode_database(read, database);
+    Ok(())
 }
 
 // Reads a book's text into a flat database, its rows into a store.
@@ -74,16 +86,15 @@ pub extern "C" fn capeshard_read_database(
         × (database.new ≡ after flat_tables (load_flat text.now database.old store.old) database.old)
         × (store.new ≡ store_after (load_flat text.now database.old store.old) store.old) }
 {
-    if database.len() < DATABASE_ROOM {
-        return short_slice();
-    }
-    let read = loading::read_database(text, store);
-    let verdict = read.verdict;
-    let Verdict::Accepted = verdict else {
-        return status(verdict);
-    };
-    encode_database(read.database, database);
-    0
+    status(read_database(text, database, store))
+}
+
+fn check(query: &[u32], database: &[u32], store: &[u32], limit: usize) -> Result<(), Refusal>
+    ensures { result ≡ verdict (check_flat (min limit node_limit) query.now database.now store.now) }
+{
+    have_room(query, database)?;
+    checking::check(decode_query(query), decode_database(database), store, limit)?;
+    Ok(())
 }
 
 // Checks a flat query over a flat database and its store.
@@ -96,12 +107,28 @@ pub extern "C" fn capeshard_check(
 ) -> u64
     ensures { result ≡ status (verdict (check_flat (min limit node_limit) query.now database.now store.now)) }
 {
-    if !have_room(query, database) {
-        return short_slice();
+    status(check(query, database, store, limit))
+}
+
+fn rewrite(
+    query: &mut [u32],
+    database: &[u32],
+    store: &[u32],
+    limit: usize,
+    kind: u32,
+    node: u32,
+) -> Result<(), Refusal>
+    ensures { Told flat_query query.old (rewrite_flat (min limit node_limit) query.old database.now store.now kind node) result query.new }
+{
+    have_room(query, database)?;
+    let given = decode_query(query);
+    match rewriting::rewrite(given, decode_database(database), store, limit, kind, node) {
+        Ok(next) => {
+            encode_query(next, query);
+            Ok(())
+        }
+        Err(unchanged) => Err(unchanged.refusal),
     }
-    let checked = checking::check(decode_query(query), decode_database(database), store, limit);
-    let verdict = checked.verdict;
-    status(verdict)
 }
 
 // Rewrites a flat query by a kind at a node; a refusal leaves it as it was.
@@ -117,17 +144,38 @@ pub extern "C" fn capeshard_rewrite(
     ensures { (result ≡ status (verdict (rewrite_flat (min limit node_limit) query.old database.now store.now kind node)))
         × (query.new ≡ after flat_query (rewrite_flat (min limit node_limit) query.old database.now store.now kind node) query.old) }
 {
-    if !have_room(query, database) {
-        return short_slice();
-    }
-    let given = decode_query(query);
-    let next = rewriting::rewrite(given, decode_database(database), store, limit, kind, node);
-    let verdict = next.verdict;
-    let Verdict::Accepted = verdict else {
-        return status(verdict);
-    };
-    encode_query(next.query, query);
-    0
+    status(rewrite(query, database, store, limit, kind, node))
+}
+
+fn run(
+    query: &[u32],
+    database: &[u32],
+    store: &[u32],
+    limit: usize,
+    rows: usize,
+    budget: u32,
+    workspace: &mut [u32],
+    answer: &mut [u32],
+    out: &mut [u32],
+) -> Result<(), Refusal>
+    ensures { Told flat_run out.old (run_flat (min limit node_limit) query.now database.now store.now rows budget workspace.old out.old answer.old) result out.new
+        × (workspace.new ≡ workspace_after (begin_flat (min limit node_limit) query.now database.now store.now rows budget workspace.old out.old) workspace.old)
+        × (answer.new ≡ answer_after (run_flat (min limit node_limit) query.now database.now store.now rows budget workspace.old out.old answer.old) answer.old) }
+{
+    have_room(query, database)?;
+    room_for(RUN_ROOM, out)?;
+    let told = run::run(
+        decode_query(query),
+        decode_database(database),
+        store,
+        limit,
+        rows,
+        budget,
+        workspace,
+        answer,
+    )?;
+    encode_run(told, out);
+    Ok(())
 }
 
 // Runs a flat query: the rows of its answer in `answer`, and in `out` the answer's columns, its row count and the lines run.
@@ -148,33 +196,25 @@ pub extern "C" fn capeshard_run(
         × (answer.new ≡ answer_after (run_flat (min limit node_limit) query.now database.now store.now rows budget workspace.old out.old answer.old) answer.old)
         × (out.new ≡ after flat_run (run_flat (min limit node_limit) query.now database.now store.now rows budget workspace.old out.old answer.old) out.old) }
 {
-    if !have_room(query, database) {
-        return short_slice();
-    }
-    if out.len() < RUN_ROOM {
-        return short_slice();
-    }
-    let ran = run::run(
-        decode_query(query),
-        decode_database(database),
-        store,
-        limit,
-        rows,
-        budget,
-        workspace,
-        answer,
-    );
-    let columns = ran.columns;
-    let outcome = ran.outcome;
-    let Outcome::Finished {
-        rows: found,
-        ran: lines,
-    } = outcome
-    else {
-        return outcome_status(outcome);
-    };
-    encode_run(columns, found, lines, out);
-    0
+    status(run(
+        query, database, store, limit, rows, budget, workspace, answer, out,
+    ))
+}
+
+fn compile(
+    query: &[u32],
+    database: &[u32],
+    store: &[u32],
+    limit: usize,
+    plan: &mut [u32],
+) -> Result<(), Refusal>
+    ensures { Told flat_slots plan.old (compile_flat (min limit node_limit) query.now database.now store.now plan.old) result plan.new }
+{
+    have_room(query, database)?;
+    room_for(PLAN_ROOM, plan)?;
+    let built = compiling::compile(decode_query(query), decode_database(database), store, limit)?;
+    encode_plan(built, plan);
+    Ok(())
 }
 
 // Compiles a flat query into a flat plan.
@@ -189,19 +229,34 @@ pub extern "C" fn capeshard_compile(
     ensures { (result ≡ status (verdict (compile_flat (min limit node_limit) query.now database.now store.now plan.old)))
         × (plan.new ≡ after flat_slots (compile_flat (min limit node_limit) query.now database.now store.now plan.old) plan.old) }
 {
-    if !have_room(query, database) {
-        return short_slice();
-    }
-    if plan.len() < PLAN_ROOM {
-        return short_slice();
-    }
-    let compiled = compiling::compile(decode_query(query), decode_database(database), store, limit);
-    let verdict = compiled.verdict;
-    let Verdict::Accepted = verdict else {
-        return status(verdict);
-    };
-    encode_plan(compiled.plan, plan);
-    0
+    status(compile(query, database, store, limit, plan))
+}
+
+fn allowance(
+    query: &[u32],
+    database: &[u32],
+    store: &[u32],
+    limit: usize,
+    rows: usize,
+    plan: &mut [u32],
+    out: &mut [u32],
+) -> Result<(), Refusal>
+    ensures { Told flat_plan plan.old (allowance_flat (min limit node_limit) query.now database.now store.now rows plan.old out.old) result plan.new
+        × (out.new ≡ after flat_budget (allowance_flat (min limit node_limit) query.now database.now store.now rows plan.old out.old) out.old) }
+{
+    have_room(query, database)?;
+    room_for(PLAN_ROOM, plan)?;
+    room_for(ALLOWANCE_ROOM, out)?;
+    let allowed = allowance::allowance(
+        decode_query(query),
+        decode_database(database),
+        store,
+        limit,
+        rows,
+    )?;
+    encode_plan(allowed.plan, plan);
+    out[0] = allowed.budget;
+    Ok(())
 }
 
 // Compiles a flat query into a flat plan, and tells in `out` the product of its number of lines and the row limit.
@@ -219,28 +274,5 @@ pub extern "C" fn capeshard_allowance(
         × (plan.new ≡ after flat_plan (allowance_flat (min limit node_limit) query.now database.now store.now rows plan.old out.old) plan.old)
         × (out.new ≡ after flat_budget (allowance_flat (min limit node_limit) query.now database.now store.now rows plan.old out.old) out.old) }
 {
-    if !have_room(query, database) {
-        return short_slice();
-    }
-    if plan.len() < PLAN_ROOM {
-        return short_slice();
-    }
-    if out.len() < ALLOWANCE_ROOM {
-        return short_slice();
-    }
-    let allowed = allowance::allowance(
-        decode_query(query),
-        decode_database(database),
-        store,
-        limit,
-        rows,
-    );
-    let budget = allowed.budget;
-    let verdict = allowed.verdict;
-    let Verdict::Accepted = verdict else {
-        return status(verdict);
-    };
-    encode_plan(allowed.plan, plan);
-    out[0] = budget;
-    0
+    status(allowance(query, database, store, limit, rows, plan, out))
 }

@@ -4,4 +4,4 @@
 mod second_pass; // second_pass.rt: 9 and 10
 mod stages; // stages.rt: the check, one stage after the other
 
-pub use stages::{check, check_query, refusal};
+pub use stages::{check, check_query};

@@ -10,11 +10,11 @@ ghost use Rattle.node_columns.specs.NodeColumns.{column_sets};
 
 use algebra::Pairing;
 use column_sets::{has_column, names_held, same_columns};
-use database::{Database, Refusal, Verdict};
+use database::{Database, Refusal};
 use query::nodes::{node_at, preceding};
 use query::{NODES, Node, Query};
 use relation::Columns;
-use scoping::first_pass::{accept_if, first_of};
+use scoping::first_pass::accept_if;
 
 // Whether the sides of a pair may have these columns.
 fn sides_agree(pairing: Pairing, left: Columns, right: Columns) -> bool
@@ -22,8 +22,7 @@ fn sides_agree(pairing: Pairing, left: Columns, right: Columns) -> bool
 {
     match pairing {
         Pairing::Union => same_columns(left, right),
-        Pairing::Join => true,
-        Pairing::Except => true,
+        Pairing::Join | Pairing::Except => true,
     }
 }
 
@@ -31,11 +30,7 @@ fn sides_agree(pairing: Pairing, left: Columns, right: Columns) -> bool
 fn can_copy(cols: Columns, c: u32, d: u32) -> bool
     ensures { result ≡ cols_of columns cols c && not (cols_of columns cols d) }
 {
-    if has_column(cols, c as usize) {
-        !has_column(cols, d as usize)
-    } else {
-        false
-    }
+    has_column(cols, c as usize) && !has_column(cols, d as usize)
 }
 
 // 9 or 10 at the node of index i.
@@ -45,7 +40,7 @@ fn second_fault(
     start: [usize; NODES],
     held: [Columns; NODES],
     i: usize,
-) -> Verdict
+) -> Result<(), Refusal>
     requires { Shaped query start × Formed query × (held ≡ column_sets (schema columns database) query) × (i < query.count) }
     ensures { result ≡ verdict (no_fault (second_at (schema columns database) (take i (visits_of (schema columns database) query)) (visit_at (schema columns database) query i))) }
 {
@@ -57,8 +52,6 @@ fn second_fault(
     let tables = database.tables;
     match node {
         Node::Table(t) => accept_if((t as usize) < tables, Refusal::NoTable(i + 1)),
-        Node::Var(_) => Verdict::Accepted,
-        Node::Fact(_, _) => Verdict::Accepted,
         Node::Pair(pairing) => accept_if(
             sides_agree(pairing, left, right),
             Refusal::ColumnFault(i + 1),
@@ -70,8 +63,8 @@ fn second_fault(
         Node::Copy(c, d) => accept_if(can_copy(right, c, d), Refusal::ColumnFault(i + 1)),
         Node::Drop(c) => accept_if(has_column(right, c as usize), Refusal::ColumnFault(i + 1)),
         Node::Fix(_) => accept_if(same_columns(right, left), Refusal::ColumnFault(i + 1)),
-        Node::Mu(_) => Verdict::Accepted, // the first pass has refused it
         Node::Last(c) => accept_if(has_column(right, c as usize), Refusal::ColumnFault(i + 1)),
+        Node::Var(_) | Node::Fact(..) | Node::Mu(_) => Ok(()), // the first pass has refused a mu
     }
 }
 
@@ -81,15 +74,12 @@ pub fn second_pass(
     database: Database,
     start: [usize; NODES],
     held: [Columns; NODES],
-) -> Verdict
+) -> Result<(), Refusal>
     requires { Shaped query start × Formed query × (held ≡ column_sets (schema columns database) query) }
     ensures { result ≡ second_verdict (schema columns database) query }
 {
-    let count = query.count;
-    let mut found = Verdict::Accepted;
-    for i in 0..count {
-        let fault = second_fault(query, database, start, held, i);
-        found = first_of(found, fault);
+    for i in 0..query.count {
+        second_fault(query, database, start, held, i)?;
     }
-    found
+    Ok(())
 }

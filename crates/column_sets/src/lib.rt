@@ -49,11 +49,7 @@ pub fn without_column(cols: Columns, c: usize) -> Columns
 fn in_either(a: Columns, b: Columns, c: usize) -> bool
     ensures { result ≡ both (cols_of columns a) (cols_of columns b) c }
 {
-    if has_column(a, c) {
-        true
-    } else {
-        has_column(b, c)
-    }
+    has_column(a, c) || has_column(b, c)
 }
 
 // The columns of either set.
@@ -73,8 +69,7 @@ pub fn both(a: Columns, b: Columns) -> Columns
 fn same_at(a: Columns, b: Columns, c: usize) -> bool
     ensures { result ≡ same_at (cols_of columns a) (cols_of columns b) c }
 {
-    let right = has_column(b, c);
-    if has_column(a, c) { right } else { !right }
+    has_column(a, c) == has_column(b, c)
 }
 
 pub fn same_columns(a: Columns, b: Columns) -> bool
@@ -103,11 +98,7 @@ pub fn any_column(cols: Columns) -> bool
 fn has_both(cols: Columns, c: u32, d: u32) -> bool
     ensures { result ≡ cols_of columns cols c && cols_of columns cols d }
 {
-    if has_column(cols, c as usize) {
-        has_column(cols, d as usize)
-    } else {
-        false
-    }
+    has_column(cols, c as usize) && has_column(cols, d as usize)
 }
 
 // Whether the columns that a filter names are in the set.
@@ -115,9 +106,9 @@ pub fn names_held(condition: Condition, cols: Columns) -> bool
     ensures { result ≡ every (cols_of columns cols) (named condition) }
 {
     match condition {
-        Condition::Eq(c, _) => has_column(cols, c as usize),
-        Condition::Ne(c, _) => has_column(cols, c as usize),
-        Condition::Max(c, _) => has_column(cols, c as usize),
+        Condition::Eq(c, _) | Condition::Ne(c, _) | Condition::Max(c, _) => {
+            has_column(cols, c as usize)
+        }
         Condition::Same(c, d) => has_both(cols, c, d),
     }
 }

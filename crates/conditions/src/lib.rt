@@ -1,40 +1,32 @@
 // The conditions of what a kind has found: "a column must be stable" (13), "a column must be unused" (14), the other operand must be closed (15).
 #![tactic(auto)]
 
-ghost use Rattle.std.specs.Prelude.{◌≡◌, not, ◌<◌, ◌≤◌};
+ghost use Rattle.std.specs.Prelude.{◌≡◌, not, ◌<◌, ◌≤◌, IfSome};
 ghost use Rattle.laws.specs.Lists.{every, all};
 ghost use Rattle.algebra.specs.Columns.{named};
 ghost use Rattle.relation.specs.Rows.{columns, cols_of};
-ghost use Rattle.database.specs.Refusals.{verdict};
 ghost use Rattle.query.specs.Lines.{node_limit};
 ghost use Rattle.query.specs.FreeSets.{none_in};
 ghost use Rattle.rewrite.specs.Places.{StartsLow, free_at};
-ghost use Rattle.matching.specs.Found.{Within, apart_at, filter_kept, shared_kept, others_fresh, drop_fresh, is_found, stable_at, unused_at, closed_at, judged_at};
+ghost use Rattle.rewrite.specs.Rewrite.{told};
+ghost use Rattle.matching.specs.Found.{Within, apart_at, filter_kept, shared_kept, others_fresh, drop_fresh, stable_at, unused_at, closed_at, judged_at};
 
 use algebra::Condition;
 use column_sets::has_column;
-use database::{Refusal, Verdict};
+use database::Refusal;
 use matching::Found;
 use origins::unstable_columns;
 use query::{Facts, Query};
 use relation::{COLUMNS, Columns};
 use rewrite::path::used_columns;
-use scoping::first_pass::{accept_if, first_of};
 use scoping::none_in;
 
 // Of one column that an operand has: if the fix has it too, or lacks it, it is not marked.
 fn apart_at(shared: bool, fix: Columns, other: Columns, marked: Columns, c: usize) -> bool
     ensures { result ≡ apart_at shared (cols_of columns fix) (cols_of columns other) (cols_of columns marked) c }
 {
-    if !has_column(other, c) {
-        return true;
-    }
-    let free = !has_column(marked, c);
-    if has_column(fix, c) {
-        if shared { free } else { true }
-    } else {
-        if shared { true } else { free }
-    }
+    let asked = has_column(other, c) && has_column(fix, c) == shared;
+    !(asked && has_column(marked, c))
 }
 
 // None of the columns that an operand shares with a fix, or none of its others, is marked.
@@ -68,20 +60,15 @@ fn others_fresh(query: Query, facts: Facts, fix: usize, other: usize) -> bool
 }
 
 // A filter names no column of a set.
+#[tactic(auto, unfolding(laws::specs::Lists::every))]
 fn none_named(condition: Condition, cols: Columns) -> bool
     ensures { result ≡ every (λ c. not (cols_of columns cols c)) (named condition) }
 {
     match condition {
-        Condition::Eq(c, _) => !has_column(cols, c as usize),
-        Condition::Ne(c, _) => !has_column(cols, c as usize),
-        Condition::Max(c, _) => !has_column(cols, c as usize),
-        Condition::Same(c, d) => {
-            if has_column(cols, c as usize) {
-                false
-            } else {
-                !has_column(cols, d as usize)
-            }
+        Condition::Eq(c, _) | Condition::Ne(c, _) | Condition::Max(c, _) => {
+            !has_column(cols, c as usize)
         }
+        Condition::Same(c, d) => !has_column(cols, c as usize) && !has_column(cols, d as usize),
     }
 }
 
@@ -108,23 +95,7 @@ fn is_closed(facts: Facts, i: usize) -> bool
     requires { i < node_limit }
     ensures { result ≡ none_in (free_at facts i) }
 {
-    let variables = facts.free[i];
-    none_in(variables)
-}
-
-// 12
-fn is_found(found: Found) -> bool
-    ensures { result ≡ is_found found }
-{
-    match found {
-        Found::Nothing => false,
-        Found::FilterFix(_, _) => true,
-        Found::FixJoin(_, _) => true,
-        Found::JoinFix(_, _) => true,
-        Found::FixExcept(_, _) => true,
-        Found::DropFix(_, _) => true,
-        Found::FixFix(_, _) => true,
-    }
+    none_in(facts.free[i])
 }
 
 // 13; "Shared columns are stable in both."
@@ -133,18 +104,13 @@ fn stable(query: Query, facts: Facts, found: Found) -> bool
     ensures { result ≡ stable_at query facts found }
 {
     match found {
-        Found::Nothing => true,
         Found::FilterFix(condition, fix) => filter_kept(query, facts, condition, fix),
-        Found::FixJoin(fix, other) => shared_kept(query, facts, fix, other),
-        Found::JoinFix(other, fix) => shared_kept(query, facts, fix, other),
-        Found::FixExcept(fix, other) => shared_kept(query, facts, fix, other),
+        Found::FixJoin(fix, other) | Found::JoinFix(other, fix) | Found::FixExcept(fix, other) => {
+            shared_kept(query, facts, fix, other)
+        }
         Found::DropFix(_, _) => true,
         Found::FixFix(left, right) => {
-            if shared_kept(query, facts, left, right) {
-                shared_kept(query, facts, right, left)
-            } else {
-                false
-            }
+            shared_kept(query, facts, left, right) && shared_kept(query, facts, right, left)
         }
     }
 }
@@ -155,19 +121,14 @@ fn unused(query: Query, facts: Facts, found: Found) -> bool
     ensures { result ≡ unused_at query facts found }
 {
     match found {
-        Found::Nothing => true,
-        Found::FilterFix(_, _) => true,
-        Found::FixJoin(fix, other) => others_fresh(query, facts, fix, other),
-        Found::JoinFix(other, fix) => others_fresh(query, facts, fix, other),
-        Found::FixExcept(_, _) => true,
+        Found::FixJoin(fix, other) | Found::JoinFix(other, fix) => {
+            others_fresh(query, facts, fix, other)
+        }
         Found::DropFix(column, fix) => drop_fresh(query, facts, column, fix),
         Found::FixFix(left, right) => {
-            if others_fresh(query, facts, left, right) {
-                others_fresh(query, facts, right, left)
-            } else {
-                false
-            }
+            others_fresh(query, facts, left, right) && others_fresh(query, facts, right, left)
         }
+        Found::FilterFix(_, _) | Found::FixExcept(_, _) => true,
     }
 }
 
@@ -177,24 +138,27 @@ fn closed(query: Query, facts: Facts, found: Found) -> bool
     ensures { result ≡ closed_at facts found }
 {
     match found {
-        Found::Nothing => true,
-        Found::FilterFix(_, _) => true,
-        Found::FixJoin(_, other) => is_closed(facts, other),
-        Found::JoinFix(other, _) => is_closed(facts, other),
-        Found::FixExcept(_, other) => is_closed(facts, other),
-        Found::DropFix(_, _) => true,
-        Found::FixFix(_, _) => true,
+        Found::FixJoin(_, other) | Found::JoinFix(other, _) | Found::FixExcept(_, other) => {
+            is_closed(facts, other)
+        }
+        Found::FilterFix(_, _) | Found::DropFix(_, _) | Found::FixFix(_, _) => true,
     }
 }
 
-// "12 to 15 in order": the first that is not met.
-pub fn judged(query: Query, facts: Facts, found: Found) -> Verdict
-    requires { Within query found × (query.count ≤ node_limit) × StartsLow facts }
-    ensures { result ≡ verdict (judged_at query facts found) }
+// "12 to 15 in order": what is found, or the first test that is not met.
+pub fn judged(query: Query, facts: Facts, found: Option<Found>) -> Result<Found, Refusal>
+    requires { IfSome found (Within query) × (query.count ≤ node_limit) × StartsLow facts }
+    ensures { result ≡ told (judged_at query facts found) }
 {
-    let matched = accept_if(is_found(found), Refusal::NoMatch);
-    let kept = accept_if(stable(query, facts, found), Refusal::Unstable);
-    let fresh = accept_if(unused(query, facts, found), Refusal::Used);
-    let shut = accept_if(closed(query, facts, found), Refusal::OpenOperand);
-    first_of(first_of(matched, kept), first_of(fresh, shut))
+    let found = found.ok_or(Refusal::NoMatch)?;
+    if !stable(query, facts, found) {
+        return Err(Refusal::Unstable);
+    }
+    if !unused(query, facts, found) {
+        return Err(Refusal::Used);
+    }
+    if !closed(query, facts, found) {
+        return Err(Refusal::OpenOperand);
+    }
+    Ok(found)
 }

@@ -1,7 +1,7 @@
 -- The proofs behind a stored book's test: the reply to its two tests, and the rows of a tested table.
 use mathlib.Core.Path.{◌≡◌, refl, ap, sym, ◌∙◌}
 use mathlib.Core.Bool.{Bool, true, false, not, ◌&&◌}
-use mathlib.Core.Option.{Option, some, none}
+use Rattle.std.specs.Prelude.{Option, Some, None}
 use mathlib.Core.Logic.{◌⊎◌, inl, inr, ◌↔◌}
 use mathlib.Core.List.{List}
 use Prim.Native.Nat.{ℕ, ◌+◌, ◌*◌, ◌≤◌}
@@ -25,20 +25,20 @@ use Rattle.database.proofs.Replies.{accepted_refused, refused_same}
 
 -- the reply to the test of the number of tables and the search for one off the form
 abbrev pub replied : Bool → Option ℕ → Reply (Unit {0})
-replied b o = require b (DatabaseForm table_limit) >>= λ _. elim o [ none ↦ accepted tt | some t ↦ refused (DatabaseForm t) ]
+replied b o = require b (DatabaseForm table_limit) >>= λ _. elim o [ None ↦ accepted tt | Some t ↦ refused (DatabaseForm t) ]
 
-pub replied_accepted : (b : Bool) (o : Option ℕ) → (replied b o ≡ accepted tt) ↔ ((b ≡ true) × (o ≡ none))
-replied_accepted true none = (λ e. (refl, refl), λ _. refl)
-replied_accepted true (some t) = (λ e. accepted_refused (sym e), λ (_, e). none_some (sym e))
+pub replied_accepted : (b : Bool) (o : Option ℕ) → (replied b o ≡ accepted tt) ↔ ((b ≡ true) × (o ≡ None))
+replied_accepted true None = (λ e. (refl, refl), λ _. refl)
+replied_accepted true (Some t) = (λ e. accepted_refused (sym e), λ (_, e). none_some (sym e))
 replied_accepted false o = (λ e. accepted_refused (sym e), λ (e, _). true_false (sym e))
 
 pub replied_refused : (b : Bool) (o : Option ℕ) (r : Refusal)
-    → (replied b o ≡ refused r) ↔ (((b ≡ false) × (r ≡ DatabaseForm table_limit)) ⊎ ((t : ℕ) × (b ≡ true) × (o ≡ some t) × (r ≡ DatabaseForm t)))
-replied_refused true none r = (
+    → (replied b o ≡ refused r) ↔ (((b ≡ false) × (r ≡ DatabaseForm table_limit)) ⊎ ((t : ℕ) × (b ≡ true) × (o ≡ Some t) × (r ≡ DatabaseForm t)))
+replied_refused true None r = (
   λ e. accepted_refused e,
   elim [ inl (e, _) ↦ true_false e | inr (_, _, e, _) ↦ none_some e ],
 )
-replied_refused true (some u) r = (
+replied_refused true (Some u) r = (
   λ e. inr (u, refl, refl, sym (refused_same e)),
   elim [ inl (e, _) ↦ true_false e | inr (t, _, e, f) ↦ ap refused (ap DatabaseForm (some_inj e) ∙ sym f) ],
 )

@@ -1,6 +1,6 @@
 -- A stored book: its tables' rows, its columns, and the test that it is on the form (11). w is the number of columns.
 use Rattle.std.specs.Prelude.{◌≡◌, Bool, not, ◌&&◌, List, [], ℕ, zero, suc, ◌+◌, ◌*◌, ◌<◌, leb, ltb, get_or, drop, length}
-use Rattle.std.proofs.Math.Option.{some, none}
+use Rattle.std.specs.Prelude.{Some, None}
 use Rattle.laws.specs.Lists.{all, lowest, every}
 use Rattle.algebra.specs.Term.{Environment}
 use Rattle.algebra.specs.Columns.{Cols, Schema}
@@ -54,7 +54,7 @@ module _ (w : ℕ) (d : Database) where
     unfoldable pub check_database : Reply (Unit {0})
     check_database = do
       _ ← require (leb d.tables table_limit) (DatabaseForm table_limit)
-      elim (lowest table_ok d.tables) [ none ↦ accepted tt | some t ↦ refused (DatabaseForm t) ]
+      elim (lowest table_ok d.tables) [ None ↦ accepted tt | Some t ↦ refused (DatabaseForm t) ]
 
 -- a stored book "has that book's columns: as many tables, those of one number having the same columns"
 pub record SameColumns (w : ℕ) (d e : Database) : Type 0 where

@@ -9,7 +9,8 @@ use Rattle.query.specs.declared.Node.{Node}
 use Rattle.query.specs.declared.Node.TheVariants.{Table, Var, Fact, Pair, Filter, Copy, Drop, Fix}
 use Rattle.query.specs.declared.Query.{Query}
 use Rattle.query.specs.Lines.{nodes, node_limit}
-use Rattle.text.specs.Lines.{KindNode, filled}
+use Rattle.text.specs.declared.Step.{Step}
+use Rattle.text.specs.Lines.{filled}
 use Rattle.text.specs.Texts
 use Rattle.text.specs.Texts.{query_value, database_value, table_entries, column_list}
 use Rattle.rewrite.specs.Rewrite.{rewrite}
@@ -24,12 +25,12 @@ pub data Outcome : Type 0 where
 pub record Case : Type 0 where
   pub query : List Node
   pub book : List Texts.Table
-  pub steps : List KindNode
+  pub steps : List Step
   pub row_limit : ℕ
   pub budget : ℕ
   pub expected : Outcome
 
-unfoldable pub rewrite_all : Database → List ℕ → List KindNode → Query → Reply Query
+unfoldable pub rewrite_all : Database → List ℕ → List Step → Query → Reply Query
 rewrite_all d store [] q = accepted q
 rewrite_all d store (s ∷ steps) q = rewrite columns node_limit q d store s.kind s.node >>= (λ p. rewrite_all d store steps p)
 
@@ -65,11 +66,11 @@ reach_step =
 abbrev pub reach : List Node
 reach = Table 0 ∷ reach_step
 
-abbrev pub step : ℕ → ℕ → List KindNode
+abbrev pub step : ℕ → ℕ → List Step
 step k n = record { kind = k; node = n } ∷ []
 
 -- Reach over the doors, with other lines behind it
-abbrev pub reach_case : List Texts.Table → List Node → List KindNode → ℕ → ℕ → Outcome → Case
+abbrev pub reach_case : List Texts.Table → List Node → List Step → ℕ → ℕ → Outcome → Case
 reach_case book more steps l budget expected =
     record { query = reach ++ more; book = book; steps = steps; row_limit = l; budget = budget; expected = expected }
 

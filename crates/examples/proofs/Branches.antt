@@ -1,6 +1,6 @@
 -- The examples of two editors hold: the hypotheses of `steps_commute` can be met, and without them it fails.
 use mathlib.Core.Path.{◌≡◌, refl, ap, sym, ◌∙◌}
-use mathlib.Core.Option.{some}
+use Rattle.std.specs.Prelude.{Some}
 use mathlib.Core.List.{[], ◌∷◌, map}
 use Prim.Native.Nat.{ℕ, ◌≤◌}
 use native.Mathlib.Omega.{arith}
@@ -46,7 +46,7 @@ abbrev right : Term
 right =
     T.filter (Eq 0 1) (T.fix 2 (T.table 1) (T.drop 2 (T.pair Join (T.drop 3 (T.copy 3 2 (T.var 2))) (T.drop 0 (T.copy 0 2 (T.table 1))))))
 
-right_ends : ended_at (split_lines query) 22 ≡ some right
+right_ends : ended_at (split_lines query) 22 ≡ Some right
 unfolding every any size free branches united_from split lines push read term_of split_faults split_term unless ended_at mathlib.Core.List.flat_map
 right_ends = refl
 
@@ -79,7 +79,7 @@ abbrev left : Term
 left =
     T.filter (Eq 0 1) (T.fix 1 (T.table 0) (T.drop 2 (T.pair Join (T.drop 1 (T.copy 1 2 (T.var 1))) (T.drop 0 (T.copy 0 2 (T.table 0))))))
 
-left_ends : ended_at (split_lines query) 11 ≡ some left
+left_ends : ended_at (split_lines query) 11 ≡ Some left
 unfolding every any size free branches united_from split lines push read term_of split_faults split_term unless ended_at mathlib.Core.List.flat_map
 left_ends = refl
 
@@ -108,7 +108,7 @@ abbrev upper : Term
 upper =
     T.filter (Eq 0 2) (T.filter (Eq 0 1) (T.fix 1 (T.table 0) (T.drop 2 (T.pair Join (T.drop 1 (T.copy 1 2 (T.var 1))) (T.drop 0 (T.copy 0 2 (T.table 0)))))))
 
-upper_ends : ended_at (split_lines two_filters) 12 ≡ some upper
+upper_ends : ended_at (split_lines two_filters) 12 ≡ Some upper
 unfolding every any size free branches united_from split lines push read term_of split_faults split_term unless ended_at mathlib.Core.List.flat_map
 upper_ends = refl
 

@@ -10,7 +10,7 @@ use Rattle.laws.proofs.FlatMaps.{flat_map_none, flat_map_more}
 use Rattle.flat.specs.Flat.{over}
 
 module _ (xs s : List ℕ) where
-  pub over_length : length xs ≤ length s → length (over xs s) ≡ length s
+  over_length : length xs ≤ length s → length (over xs s) ≡ length s
   over_length h = length-append xs (drop (length xs) s) ∙ ap (λ n. length xs + n) (length-drop (length xs) s) ∙ omega arith
 
   -- what is written next
@@ -20,24 +20,6 @@ module _ (xs s : List ℕ) where
       ∙ ap (λ (p : List ℕ). p ++ vs ++ drop (length xs + length vs) (over xs s)) (take-append_seam xs (drop (length xs) s))
       ∙ ap (λ (r : List ℕ). xs ++ vs ++ r)
       (drop-append-add xs (drop (length xs) s) (length vs) ∙ drop-drop (length vs) (length xs) s ∙ ap (λ n. drop n s) (sym (length-append xs vs)))
-
--- seven stores in a row
-pub seven : (l : List ℕ) (at a b c d e f g : ℕ)
-    → set (sets (sets l at (a ∷ (b ∷ (c ∷ [])))) (at + 3) (d ∷ (e ∷ (f ∷ [])))) (at + 6) g ≡ sets l at (a ∷ (b ∷ (c ∷ (d ∷ (e ∷ (f ∷ (g ∷ [])))))))
-seven l at a b c d e f g =
-    ap (λ n. set (sets (sets l at (a ∷ (b ∷ (c ∷ [])))) n (d ∷ (e ∷ (f ∷ [])))) (at + 6) g) {x = at + 3} {y = suc (suc (suc at))} (omega arith)
-    ∙ ap (λ n. set (sets (sets l at (a ∷ (b ∷ (c ∷ [])))) (suc (suc (suc at))) (d ∷ (e ∷ (f ∷ [])))) n g) {x = at + 6}
-    {y = suc (suc (suc (suc (suc (suc at)))))} (omega arith)
-
--- two stores in a row
-pub two : (l : List ℕ) (at a b : ℕ) → set (set l at a) (at + 1) b ≡ sets l at (a ∷ (b ∷ []))
-two l at a b = ap (λ n. set (set l at a) n b) {x = at + 1} {y = suc at} (omega arith)
-
--- three stores in a row
-pub three : (l : List ℕ) (at a b c : ℕ) → set (set (set l at a) (at + 1) b) (at + 2) c ≡ sets l at (a ∷ (b ∷ (c ∷ [])))
-three l at a b c =
-    ap (λ n. set (set (set l at a) n b) (at + 2) c) {x = at + 1} {y = suc at} (omega arith)
-    ∙ ap (λ n. set (set (set l at a) (suc at) b) n c) {x = at + 2} {y = suc (suc at)} (omega arith)
 
 module _ {A : Type 0} (f : A → List ℕ) (k : ℕ) (size : (a : A) → length (f a) ≡ k) where
   pub blocks_length : (l : List A) → length (flat_map f l) ≡ k * length l
@@ -70,10 +52,6 @@ module _ {A : Type 0} (f : A → List ℕ) (k : ℕ) (size : (a : A) → length 
 
     pub begun_none : 0 < length s → s ≡ begun (get_or s 0 0) 0
     begun_none h = drop-cons s 0 0 h ∙ ap (λ (b : List ℕ). get_or s 0 0 ∷ (b ++ drop (suc (length b)) s)) (sym (flat_map_none f))
-
-    pub begun_length : (x i : ℕ) → i ≤ length l → 1 + k * length l ≤ length s → length (begun x i) ≡ length s
-    begun_length x i h r =
-        over_length (x ∷ flat_map f (take i l)) s (let e = begun_head x i h in let m = mul-le-mul_left k h in omega arith)
 
     pub begun_more : (x i : ℕ) (d : A) → i < length l → 1 + k * length l ≤ length s → sets (begun x i) (1 + k * i) (f (get_or l i d)) ≡ begun x (i + 1)
     begun_more x i d h r =

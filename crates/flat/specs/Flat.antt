@@ -10,22 +10,19 @@ use Rattle.algebra.specs.Columns.{Cols, no_cols}
 use Rattle.relation.specs.declared.Columns.{Columns}
 use Rattle.relation.specs.Rows.{columns, cols_of, columns_of}
 use Rattle.database.specs.declared.Database.{Database}
-use Rattle.database.specs.declared.Verdict.{Verdict}
-use Rattle.database.specs.declared.Verdict.TheVariants.{Accepted, Refused}
+use Rattle.database.specs.Refusals.{Verdict}
+use Rattle.std.specs.Prelude.{Ok, Err}
 use Rattle.database.specs.Stored.{table_limit, table_cols, row_count}
 use Rattle.database.specs.Refusals.{number, place_of}
 use Rattle.query.specs.declared.Node.{Node}
 use Rattle.query.specs.declared.Node.TheVariants.{Table, Var, Fact, Pair, Filter, Copy, Drop, Fix, Mu, Last}
 use Rattle.query.specs.declared.Query.{Query}
 use Rattle.query.specs.Lines.{node_limit, nodes, line}
-use Rattle.machine.specs.declared.Outcome.{Outcome}
-use Rattle.machine.specs.declared.Outcome.TheVariants.{Finished}
-use Rattle.machine.specs.declared.Outcome.TheVariants as run
 use Rattle.machine.specs.declared.Pause.{Pause}
-use Rattle.machine.specs.declared.Stop.{Stop}
-use Rattle.machine.specs.declared.Stop.TheVariants.{Ended, Paused}
+use Rattle.machine.specs.declared.Progress.{Progress}
+use Rattle.machine.specs.declared.Progress.TheVariants.{Finished, Paused}
+use Rattle.machine.specs.declared.Ran.{Ran}
 use Rattle.machine.specs.Run.{Answer, Enough}
-use Rattle.machine.specs.Pauses.{stop_verdict}
 use Rattle.plan.specs.declared.Op.{Op}
 use Rattle.plan.specs.declared.Op.TheVariants as plan
 use Rattle.plan.specs.declared.Slot.{Slot}
@@ -45,8 +42,8 @@ abbrev pub status_base : ℕ
 status_base = 4294967296
 
 abbrev pub status : Verdict → ℕ
-status Accepted = 0
-status (Refused r) = number r * status_base + entry (place_of r)
+status (Ok tt) = 0
+status (Err r) = number r * status_base + entry (place_of r)
 
 -- entries written from the start of a lent slice; what lies behind them stays
 abbrev pub over : List ℕ → List ℕ → List ℕ
@@ -162,9 +159,9 @@ run_room = 3
 abbrev pub flat_run : Answer → List ℕ
 flat_run a = bits_of a.columns ∷ (entry (length a.rows) ∷ (a.ran ∷ []))
 
-abbrev pub outcome_status : Outcome → ℕ
-outcome_status (Finished rows ran) = 0
-outcome_status (run.Refused r) = status (Refused r)
+-- the same of what the code tells of it
+abbrev pub told_entries : Ran → List ℕ
+told_entries told = bits_of told.columns ∷ (entry told.rows ∷ (told.lines ∷ []))
 
 -- a pause: "the next plan line, counted from 1, the lines run"
 abbrev pub pause_room : ℕ
@@ -176,21 +173,13 @@ flat_pause p = p.next ∷ (p.ran ∷ [])
 abbrev pub pause_in : List ℕ → Pause
 pause_in s = record { next = get_or s 0 0; ran = get_or s 1 0 }
 
--- a run that can be gone on with: "answers 19 with a pause"
-abbrev pub stop_status : Stop → ℕ
-stop_status x = status (stop_verdict x)
+-- what the slices of a run that can be gone on with hold afterwards: what a finished run tells in the one, a pause in the other
+abbrev pub told_after : Progress → List ℕ → List ℕ
+told_after (Finished told) s = over (told_entries told) s
+told_after (Paused p) s = s
 
--- what its slices hold afterwards: what a finished run tells in the one, a pause in the other
-abbrev pub ended_after : Outcome → Columns → List ℕ → List ℕ
-ended_after (Finished rows ran) set s = over (bits_of set ∷ (entry rows ∷ (ran ∷ []))) s
-ended_after (run.Refused r) set s = s
-
-abbrev pub told_after : Stop → Columns → List ℕ → List ℕ
-told_after (Ended outcome) set s = ended_after outcome set s
-told_after (Paused p) set s = s
-
-abbrev pub pause_after : Stop → List ℕ → List ℕ
-pause_after (Ended outcome) s = s
+abbrev pub pause_after : Progress → List ℕ → List ℕ
+pause_after (Finished told) s = s
 pause_after (Paused p) s = over (flat_pause p) s
 
 -- a plan line's code and four numbers: what it writes, then what it reads, in the order of the line's fields, 0 where it has fewer. The codes are

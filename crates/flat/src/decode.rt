@@ -1,58 +1,62 @@
 // From flat slices to values.
-ghost use Rattle.std.specs.Prelude.{◌≡◌, ◌<◌, ◌≤◌, ◌+◌, ◌*◌, length, get_or};
+ghost use Rattle.std.specs.Prelude.{◌≡◌, ◌<◌, ◌≤◌, ◌+◌, ◌*◌, length, get_or, leb};
 ghost use Rattle.laws.specs.Lists.{tabulate};
 ghost use Rattle.relation.specs.Rows.{columns};
+ghost use Rattle.database.specs.declared.Refusal.TheVariants.{ShortSlice};
+ghost use Rattle.database.specs.Refusals.{verdict, require};
 ghost use Rattle.database.specs.Stored.{table_limit};
 ghost use Rattle.query.specs.Lines.{line, node_limit};
 ghost use Rattle.flat.specs.Flat.{node_of, line_at, line_entries, query_room, query_of, column_set, table_width, database_room, database_of, have_room, pause_room, pause_in};
 
 use super::{DATABASE_ROOM, FlatLine, LINE_ENTRIES, QUERY_ROOM, TABLE_ENTRIES};
 use algebra::{Condition, Pairing};
-use database::{Database, TABLES};
+use database::{Database, Refusal, TABLES};
 use machine::Pause;
 use query::{Line, NODES, Node, Query};
 use relation::{COLUMNS, Columns};
 
-// Whether the slices of a query and a database have room.
-pub fn have_room(query: &[u32], database: &[u32]) -> bool
-    ensures { result ≡ have_room query.now database.now }
+// Refuses a slice of fewer entries than its room.
+pub fn room_for(room: usize, slice: &[u32]) -> Result<(), Refusal>
+    ensures { result ≡ verdict (require (leb room (length slice.now)) ShortSlice) }
 {
-    if query.len() < QUERY_ROOM {
-        return false;
+    if slice.len() < room {
+        return Err(Refusal::ShortSlice);
     }
-    database.len() >= DATABASE_ROOM
+    Ok(())
 }
 
-fn wide(x: u32) -> usize
-    ensures { result ≡ x }
+// Refuses the slices of a query and a database if either is short.
+pub fn have_room(query: &[u32], database: &[u32]) -> Result<(), Refusal>
+    ensures { result ≡ verdict (require (have_room query.now database.now) ShortSlice) }
 {
-    x as usize
+    room_for(QUERY_ROOM, query)?;
+    room_for(DATABASE_ROOM, database)
 }
 
 // The node line of a code and two numbers; the last one is off the form.
-fn node_of(line: FlatLine) -> Node
-    ensures { result ≡ node_of line }
-{
-    let code = line.code;
-    let a = line.a;
-    let b = line.b;
-    match code {
-        1 => Node::Table(a),
-        2 => Node::Var(a),
-        3 => Node::Fact(a, b),
-        4 => Node::Pair(Pairing::Union),
-        5 => Node::Pair(Pairing::Join),
-        6 => Node::Pair(Pairing::Except),
-        7 => Node::Filter(Condition::Eq(a, b)),
-        8 => Node::Filter(Condition::Ne(a, b)),
-        9 => Node::Filter(Condition::Max(a, b)),
-        10 => Node::Filter(Condition::Same(a, b)),
-        11 => Node::Copy(a, b),
-        12 => Node::Drop(a),
-        13 => Node::Fix(a),
-        15 => Node::Mu(a),
-        16 => Node::Last(a),
-        _ => Node::Table(4294967295),
+impl From<FlatLine> for Node {
+    ghost from_gives = { λ line node. node ≡ node_of line };
+
+    fn from(line: FlatLine) -> Node {
+        let FlatLine { code, a, b } = line;
+        match code {
+            1 => Node::Table(a),
+            2 => Node::Var(a),
+            3 => Node::Fact(a, b),
+            4 => Node::Pair(Pairing::Union),
+            5 => Node::Pair(Pairing::Join),
+            6 => Node::Pair(Pairing::Except),
+            7 => Node::Filter(Condition::Eq(a, b)),
+            8 => Node::Filter(Condition::Ne(a, b)),
+            9 => Node::Filter(Condition::Max(a, b)),
+            10 => Node::Filter(Condition::Same(a, b)),
+            11 => Node::Copy(a, b),
+            12 => Node::Drop(a),
+            13 => Node::Fix(a),
+            15 => Node::Mu(a),
+            16 => Node::Last(a),
+            _ => Node::Table(u32::MAX),
+        }
     }
 }
 
@@ -76,8 +80,9 @@ fn decode_lines(query: &[u32]) -> [Line; NODES]
         node: Node::Table(0),
     }; NODES];
     for i in 0..NODES {
-        let node = node_of(line_at(query, i));
-        lines[i] = Line { node };
+        lines[i] = Line {
+            node: Node::from(line_at(query, i)),
+        };
     }
     lines
 }
@@ -87,10 +92,9 @@ pub fn decode_query(query: &[u32]) -> Query
     requires { query_room ≤ length query.now }
     ensures { result ≡ query_of query.now }
 {
-    let lines = decode_lines(query);
     Query {
-        count: wide(query[0]),
-        lines,
+        count: query[0] as usize,
+        lines: decode_lines(query),
     }
 }
 
@@ -102,7 +106,7 @@ fn column_set(bits: u32) -> Columns
     let mut rest = bits;
     for c in 0..COLUMNS {
         set.has[c] = rest % 2 == 1;
-        rest = rest / 2;
+        rest /= 2;
     }
     if rest == 0 {
         return set;
@@ -117,8 +121,7 @@ fn decode_columns(database: &[u32]) -> [Columns; TABLES]
     let none = column_sets::no_columns();
     let mut sets = [none; TABLES];
     for t in 0..TABLES {
-        let set = column_set(database[1 + TABLE_ENTRIES * t]);
-        sets[t] = set;
+        sets[t] = column_set(database[1 + TABLE_ENTRIES * t]);
     }
     sets
 }
@@ -129,7 +132,7 @@ fn decode_rows(database: &[u32]) -> [usize; TABLES]
 {
     let mut rows = [0usize; TABLES];
     for t in 0..TABLES {
-        rows[t] = wide(database[2 + TABLE_ENTRIES * t]);
+        rows[t] = database[2 + TABLE_ENTRIES * t] as usize;
     }
     rows
 }
@@ -139,12 +142,10 @@ pub fn decode_database(database: &[u32]) -> Database
     requires { database_room ≤ length database.now }
     ensures { result ≡ database_of database.now }
 {
-    let columns = decode_columns(database);
-    let rows = decode_rows(database);
     Database {
-        tables: wide(database[0]),
-        columns,
-        rows,
+        tables: database[0] as usize,
+        columns: decode_columns(database),
+        rows: decode_rows(database),
     }
 }
 

@@ -23,10 +23,8 @@ mod decode; // decode.rt: from flat slices to values
 pub mod encode; // encode.rt: from values to flat slices
 
 use database::TABLES;
-pub use decode::{decode_database, decode_pause, decode_query, have_room};
-pub use encode::{
-    encode_database, encode_progress, encode_query, encode_run, outcome_status, short_slice, status,
-};
+pub use decode::{decode_database, decode_pause, decode_query, have_room, room_for};
+pub use encode::{encode_database, encode_progress, encode_query, encode_run, status};
 use query::NODES;
 
 pub const LINE_ENTRIES: usize = 3;
@@ -48,7 +46,7 @@ pub const PLAN_ROOM: usize = 1 + SLOT_ENTRIES * NODES;
 pub const ALLOWANCE_ROOM: usize = 1;
 
 // A plan line as a code and four numbers.
-#[derive(Clone, Copy)]
+#[derive(Clone, Copy, Debug, PartialEq, Eq)]
 pub struct FlatOp {
     pub code: u32,
     pub to: u32,
@@ -58,7 +56,7 @@ pub struct FlatOp {
 }
 
 // A node line as a code and two numbers.
-#[derive(Clone, Copy)]
+#[derive(Clone, Copy, Debug, PartialEq, Eq)]
 pub struct FlatLine {
     pub code: u32,
     pub a: u32,

@@ -1,22 +1,15 @@
 // Plans in flat slices.
 #![tactic(auto)]
 
-ghost use Rattle.std.specs.Prelude.{◌≡◌, ◌<◌, ◌≤◌, ◌+◌, min, length};
+ghost use Rattle.std.specs.Prelude.{◌≡◌, ◌<◌, ◌≤◌, ◌+◌, length};
 ghost use Rattle.std.proofs.lemmas.List.Edits.{sets};
-ghost use Rattle.query.specs.Lines.{node_limit};
 ghost use Rattle.plan.specs.declared.Op.TheVariants.{Filter, Pair};
 ghost use Rattle.flat.specs.Flat.{over, op_line, flat_op, slot_of, plan_room, plan_slots, flat_slots};
 
 use algebra::{Condition, Pairing};
-use flat::encode::{bits_of, entry, filter_line, pair_line, put_line};
+use flat::encode::{bits_of, entry, put_line};
 use flat::{FlatLine, FlatOp, SLOT_ENTRIES};
 use plan::{LINES, Op, Plan, Slot};
-
-fn wide(x: u32) -> usize
-    ensures { result ≡ x }
-{
-    x as usize
-}
 
 fn op_line(code: u32, to: usize, a: usize, b: usize, c: usize) -> FlatOp
     ensures { result ≡ op_line code to a b c }
@@ -33,15 +26,15 @@ fn op_line(code: u32, to: usize, a: usize, b: usize, c: usize) -> FlatOp
 fn pair_op(to: usize, left: usize, right: usize, pairing: Pairing) -> FlatOp
     ensures { result ≡ flat_op (Pair to left right pairing) }
 {
-    let line = pair_line(pairing);
+    let line = FlatLine::from(pairing);
     op_line(line.code, to, left, right, 0)
 }
 
 fn filter_op(to: usize, from: usize, condition: Condition) -> FlatOp
     ensures { result ≡ flat_op (Filter to from condition) }
 {
-    let line = filter_line(condition);
-    op_line(line.code, to, from, wide(line.a), wide(line.b))
+    let line = FlatLine::from(condition);
+    op_line(line.code, to, from, line.a as usize, line.b as usize)
 }
 
 // The code and the numbers of a plan line.
@@ -50,7 +43,7 @@ fn flat_op(op: Op) -> FlatOp
 {
     match op {
         Op::Table { to, table } => op_line(1, to, table, 0, 0),
-        Op::Fact { to, column, value } => op_line(3, to, column, wide(value), 0),
+        Op::Fact { to, column, value } => op_line(3, to, column, value as usize, 0),
         Op::Pair {
             to,
             left,
@@ -90,12 +83,9 @@ fn put_slot(slot: Slot, out: &mut [u32], at: usize)
     requires { at + 6 < length out.old }
     ensures { out.new ≡ sets out.old at (slot_of slot) }
 {
-    let op = slot.op;
-    let left = slot.left;
-    let right = slot.right;
-    let line = flat_op(op);
-    let first = bits_of(left);
-    let second = bits_of(right);
+    let line = flat_op(slot.op);
+    let first = bits_of(slot.left);
+    let second = bits_of(slot.right);
     let head = FlatLine {
         code: line.code,
         a: line.to,
@@ -111,23 +101,14 @@ fn put_slot(slot: Slot, out: &mut [u32], at: usize)
     out[at + 6] = second;
 }
 
-// How many lines a plan has slots for.
-fn line_count(plan: Plan) -> usize
-    ensures { result ≡ min plan.count node_limit }
-{
-    let count = plan.count;
-    if count <= LINES { count } else { LINES }
-}
-
 // Writes a plan's line count and lines; the entries behind them stay.
 pub fn encode_plan(plan: Plan, out: &mut [u32])
     requires { plan_room ≤ length out.old }
     ensures { out.new ≡ over (flat_slots (plan_slots plan)) out.old }
 {
-    let count = line_count(plan);
+    let count = plan.count.min(LINES);
     for i in 0..count {
-        let slot = plan.ops[i];
-        put_slot(slot, out, 1 + SLOT_ENTRIES * i);
+        put_slot(plan.ops[i], out, 1 + SLOT_ENTRIES * i);
     }
     out[0] = entry(count);
 }

@@ -1,7 +1,7 @@
 -- Lists of any element: a fact of each member, and tests over all members.
 use mathlib.Core.Path.{◌≡◌, refl, ap, sym, ◌∙◌}
 use mathlib.Core.Bool.{Bool, true, false, ◌&&◌}
-use mathlib.Core.Option.{some, none}
+use Rattle.std.specs.Prelude.{Some, None}
 use mathlib.Core.Logic.{inl, inr}
 use mathlib.Core.List.{List, [], ◌∷◌, ◌++◌, map, flat_map, append_assoc}
 use Prim.Native.Nat.{ℕ, zero, suc, ◌<◌}
@@ -54,7 +54,7 @@ each_of_member P (a ∷ l) (h, hs) n e = elim (same? n a) [
 ]
 
 -- a value that is kept where a test passes
-pub kept : {A : Type 0} {a b : A} (t : Bool) → (when t then some a else none) ≡ some b → (t ≡ true) × (a ≡ b)
+pub kept : {A : Type 0} {a b : A} (t : Bool) → (when t then Some a else None) ≡ Some b → (t ≡ true) × (a ≡ b)
 kept true e = (refl, some_inj e)
 kept false e = none_some e
 
@@ -62,23 +62,23 @@ pub both_true : (a b : Bool) → a && b ≡ true → (a ≡ true) × (b ≡ true
 both_true a b e = (and_true_left a b e, and_true_right a b e)
 
 -- a fact of some member
-pub data Some {A : Type 0} (P : A → Type 0) : List A → Type 0 where
-  first : {a : A} {l : List A} → P a → Some P (a ∷ l)
-  later : {a : A} {l : List A} → Some P l → Some P (a ∷ l)
+pub data SomeMember {A : Type 0} (P : A → Type 0) : List A → Type 0 where
+  first : {a : A} {l : List A} → P a → SomeMember P (a ∷ l)
+  later : {a : A} {l : List A} → SomeMember P l → SomeMember P (a ∷ l)
 
-pub some_at : {A : Type 0} (P : A → Type 0) (d : A) (l : List A) (i : ℕ) → i < length l → P (get_or l i d) → Some P l
+pub some_at : {A : Type 0} (P : A → Type 0) (d : A) (l : List A) (i : ℕ) → i < length l → P (get_or l i d) → SomeMember P l
 some_at P d [] i h p = absurd (not-suc-le-zero h)
 some_at P d (a ∷ l) zero h p = first p
 some_at P d (a ∷ l) (suc i) h p = later (some_at P d l i (le_of_suc-le-suc h) p)
 
 -- a fact of each member beside a fact of some
-pub some_map : {A : Type 0} {P Q R : A → Type 0} (l : List A) → ((a : A) → Q a → P a → R a) → Each Q l → Some P l → Some R l
+pub some_map : {A : Type 0} {P Q R : A → Type 0} (l : List A) → ((a : A) → Q a → P a → R a) → Each Q l → SomeMember P l → SomeMember R l
 some_map {A = A} {P = P} {Q = Q} {R = R} [] f _ x = elim x [ ]
 some_map (a ∷ l) f (q, qs) (first p) = first (f a q p)
 some_map (a ∷ l) f (q, qs) (later p) = later (some_map l f qs p)
 
 -- what follows from some member follows
-pub some_out : {A C : Type 0} (l : List A) → Some (λ _. C) l → C
+pub some_out : {A C : Type 0} (l : List A) → SomeMember (λ _. C) l → C
 some_out {A = A} {C = C} [] x = elim x [ ]
 some_out (a ∷ l) (first c) = c
 some_out (a ∷ l) (later s) = some_out l s

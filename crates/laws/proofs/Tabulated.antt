@@ -1,7 +1,7 @@
 -- Tables of numbers, tests of every number below n, and the lowest number that fails one.
 use mathlib.Core.Path.{◌≡◌, refl, ap, sym, ◌∙◌, subst}
 use mathlib.Core.Bool.{Bool, true, false}
-use mathlib.Core.Option.{Option, some, none}
+use Rattle.std.specs.Prelude.{Option, Some, None}
 use mathlib.Core.Logic.{inl, inr, ◌↔◌}
 use mathlib.Core.List.{[], ◌∷◌}
 use Prim.Native.Nat.{ℕ, zero, suc, ◌<◌}
@@ -29,14 +29,14 @@ get_d_tabulate f (suc n) c d h = elim (same? c n) [
 
 -- o is the lowest number below n that fails, if there is one
 abbrev Lowest : (ℕ → Bool) → ℕ → Option ℕ → Type 0
-Lowest p n none = (c : ℕ) → c < n → p c ≡ true
-Lowest p n (some i) = (i < n) × (p i ≡ false) × ((c : ℕ) → c < i → p c ≡ true)
+Lowest p n None = (c : ℕ) → c < n → p c ≡ true
+Lowest p n (Some i) = (i < n) × (p i ≡ false) × ((c : ℕ) → c < i → p c ≡ true)
 
 lowest_next : (p : ℕ → Bool) (n : ℕ) (o : Option ℕ) (b : Bool) → Lowest p n o → p n ≡ b
-    → Lowest p (suc n) (elim o [ none ↦ when b then none else some n | some i ↦ some i ])
-lowest_next p n none true f e = λ c h. elim (same? c n) [ inl s ↦ ap p s.0 ∙ e | inr s ↦ f c (let u = s.0 in omega arith) ]
-lowest_next p n none false f e = (omega arith, e, f)
-lowest_next p n (some i) b (h, e, f) _ = (omega arith, e, f)
+    → Lowest p (suc n) (elim o [ None ↦ when b then None else Some n | Some i ↦ Some i ])
+lowest_next p n None true f e = λ c h. elim (same? c n) [ inl s ↦ ap p s.0 ∙ e | inr s ↦ f c (let u = s.0 in omega arith) ]
+lowest_next p n None false f e = (omega arith, e, f)
+lowest_next p n (Some i) b (h, e, f) _ = (omega arith, e, f)
 
 lowest_is : (p : ℕ → Bool) (n : ℕ) → Lowest p n (lowest p n)
 unfolding lowest
@@ -44,20 +44,20 @@ lowest_is p zero = λ c h. absurd (not-suc-le-zero h)
 lowest_is p (suc n) = lowest_next p n (lowest p n) (p n) (lowest_is p n) refl
 
 lowest_one : (p : ℕ → Bool) (n : ℕ) (o q : Option ℕ) → Lowest p n o → Lowest p n q → o ≡ q
-lowest_one p n none none f g = refl
-lowest_one p n none (some j) f (h, e, _) = true_false (sym (f j h) ∙ e)
-lowest_one p n (some i) none (h, e, _) g = true_false (sym (g i h) ∙ e)
-lowest_one p n (some i) (some j) (h, e, f) (k, d, g) = elim (dec_lt i j) [
+lowest_one p n None None f g = refl
+lowest_one p n None (Some j) f (h, e, _) = true_false (sym (f j h) ∙ e)
+lowest_one p n (Some i) None (h, e, _) g = true_false (sym (g i h) ∙ e)
+lowest_one p n (Some i) (Some j) (h, e, f) (k, d, g) = elim (dec_lt i j) [
   | yes l ↦ true_false (sym (g i l) ∙ e)
-  | no l ↦ elim (dec_lt j i) [ yes m ↦ true_false (sym (f j m) ∙ d) | no m ↦ ap some (omega arith) ]
+  | no l ↦ elim (dec_lt j i) [ yes m ↦ true_false (sym (f j m) ∙ d) | no m ↦ ap Some (omega arith) ]
 ]
 
 lowest_iff : (p : ℕ → Bool) (n : ℕ) (o : Option ℕ) → (lowest p n ≡ o) ↔ Lowest p n o
 lowest_iff p n o = (λ e. subst (Lowest p n) e (lowest_is p n), lowest_one p n (lowest p n) o (lowest_is p n))
 
 -- no number fails exactly if all below n pass
-pub lowest_none : (p : ℕ → Bool) (n : ℕ) → (lowest p n ≡ none) ↔ ((c : ℕ) → c < n → p c ≡ true)
-lowest_none p n = lowest_iff p n none
+pub lowest_none : (p : ℕ → Bool) (n : ℕ) → (lowest p n ≡ None) ↔ ((c : ℕ) → c < n → p c ≡ true)
+lowest_none p n = lowest_iff p n None
 
-pub lowest_some : (p : ℕ → Bool) (n i : ℕ) → (lowest p n ≡ some i) ↔ ((i < n) × (p i ≡ false) × ((c : ℕ) → c < i → p c ≡ true))
-lowest_some p n i = lowest_iff p n (some i)
+pub lowest_some : (p : ℕ → Bool) (n i : ℕ) → (lowest p n ≡ Some i) ↔ ((i < n) × (p i ≡ false) × ((c : ℕ) → c < i → p c ≡ true))
+lowest_some p n i = lowest_iff p n (Some i)

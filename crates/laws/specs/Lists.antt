@@ -1,6 +1,6 @@
 -- Tests and lists, over any element. Nothing here comes from document 01.
 use Rattle.std.specs.Prelude.{Bool, true, false, not, ◌&&◌, ◌||◌, List, [], ◌∷◌, ◌++◌, ℕ, zero, suc, eqb}
-use Rattle.std.proofs.Math.Option.{Option, some, none}
+use Rattle.std.specs.Prelude.{Option, Some, None}
 
 infix 10 when◌then◌else◌
 infixl 60 ◌iff◌
@@ -41,8 +41,8 @@ all p (suc n) = all p n && p n
 
 -- the lowest number below n that fails
 unfoldable pub lowest : (ℕ → Bool) → ℕ → Option ℕ
-lowest p zero = none
-lowest p (suc n) = elim (lowest p n) [ none ↦ when p n then none else some n | some i ↦ some i ]
+lowest p zero = None
+lowest p (suc n) = elim (lowest p n) [ None ↦ when p n then None else Some n | Some i ↦ Some i ]
 
 -- f 0, …, f (n - 1)
 unfoldable pub tabulate : {A : Type 0} → (ℕ → A) → ℕ → List A

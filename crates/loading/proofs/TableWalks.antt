@@ -1,7 +1,7 @@
 -- Reading a table line by line, and a walk over tables.
 use mathlib.Core.Path.{◌≡◌, ap, sym, ◌∙◌, subst}
 use mathlib.Core.Bool.{Bool}
-use mathlib.Core.Option.{Option, some, none}
+use Rattle.std.specs.Prelude.{Option, Some, None}
 use mathlib.Core.List.{List, [], ◌∷◌, ◌++◌, map}
 use Prim.Native.Nat.{ℕ, ◌+◌, ◌-◌, ◌*◌, ◌≤◌, ◌<◌}
 use native.Mathlib.Omega.{arith}
@@ -34,29 +34,42 @@ use Rattle.text.proofs.Tables.{table_exact}
 use Rattle.relation.proofs.Entries.{entries_length}
 use Rattle.text.proofs.ReadTables.{good_fits}
 use Rattle.text.proofs.ReaderLawsDue.{due_reply, due_reply_lem, count_form_lem}
-use Rattle.loading.specs.declared.table_reader.Walked.{Walked}
-use Rattle.loading.specs.declared.table_reader.Walked.TheVariants.{Next, Bad}
 use Rattle.loading.specs.declared.table_reader.ReadTable.{ReadTable}
-use Rattle.loading.specs.Loading.{stores, read_entries, MayStore, Passed, Walks, row_entries, table_stored, tables_stored, cols_set, with_table, GoodTable, GoodTables}
+use Rattle.loading.specs.Loading.{stores, read_entries, MayStore, Passed, row_entries, table_stored, tables_stored, cols_set, with_table, GoodTable, GoodTables}
+use Rattle.laws.proofs.Options.{none_some, some_inj}
+use Rattle.row_reading.specs.declared.list_reader.Numbers.{Numbers}
+use Rattle.row_reading.specs.NumberArrays.{numbers_of, listed}
+use Rattle.row_reading.specs.RowReading.{cols_due}
+use Rattle.row_reading.proofs.NumberLists.{listed_of}
 use Rattle.row_reading.proofs.RowLists.{columns_few}
 use Rattle.loading.proofs.Stores.{may_first, stores_then}
 use Rattle.loading.proofs.Walks.{Laid, Walk, walk_none, walk_part, walk_more, walk_stops, walk_kept, walk_length, walk_all, walk_stored}
 
+-- the columns that a due line replies
+pub due_cols_next : (o : Option (List ℕ × Cursor)) (ns : Numbers) (c : Cursor) → Some (ns, c) ≡ cols_due o
+    → (o ≡ Some (listed ns, c)) × (ns.count ≡ length (listed ns))
+due_cols_next None ns c e = none_some (sym e)
+due_cols_next (Some p) ns c e =
+    let same : (ns, c) ≡ (numbers_of p.0, p.1) = some_inj e in
+    let held : ns ≡ numbers_of p.0 = ap (λ (q : Numbers × Cursor). q.0) same in
+    let read : p.0 ≡ listed ns = sym (ap listed held ∙ listed_of p.0) in
+    (ap (λ l. Some (l, p.1)) read ∙ ap (λ (q : Numbers × Cursor). Some (listed ns, q.1)) (sym same), ap (λ (n : Numbers). n.count) held ∙ ap length read)
+
 -- what a due line that was read says of its value
 module _ {A : Type 0} (form : List ℕ → Option A) (text : List ℕ) (c : Cursor) where
-  by_form_lem : (a : A) (d : Cursor) → due_line form text c ≡ some (a, d) → (l : List ℕ) × (form l ≡ some a)
+  by_form_lem : (a : A) (d : Cursor) → due_line form text c ≡ Some (a, d) → (l : List ℕ) × (form l ≡ Some a)
   by_form_lem a d e =
       let (l, _, f) = due_accepted DatabaseForm form (rest_at text c) (rest_at text d) a
       (due_reply_lem form text c DatabaseForm ∙ ap (due_reply form text c DatabaseForm) e) in
       (l, f)
 
-pub cols_bound : (w : ℕ) (text : List ℕ) (c d : Cursor) (cs : List ℕ) → due_line (cols_line w) text c ≡ some (cs, d) → length cs ≤ w
+pub cols_bound : (w : ℕ) (text : List ℕ) (c d : Cursor) (cs : List ℕ) → due_line (cols_line w) text c ≡ Some (cs, d) → length cs ≤ w
 cols_bound w text c d cs e =
     let (l, f) = by_form_lem (cols_line w) text c cs d e in
     let good = ((cols_exact w).printed l cs f).1 in
     columns_few w cs (and_true _ _ good.ascends good.below)
 
-pub count_bound : (key : List ℕ) (most : ℕ) (text : List ℕ) (c d : Cursor) (n : ℕ) → due_line (count_form key most) text c ≡ some (n, d) → n ≤ most
+pub count_bound : (key : List ℕ) (most : ℕ) (text : List ℕ) (c d : Cursor) (n : ℕ) → due_line (count_form key most) text c ≡ Some (n, d) → n ≤ most
 count_bound key most text c d n e =
     let (l, f) = by_form_lem (count_form key most) text c n d e in
     leb-true n most (in_range_lem (λ n. leb n most) (if_one (λ n. n) (numbers_behind key l)) n f).1
@@ -70,7 +83,7 @@ module _ (text : List ℕ) (c : Cursor) where
   made cs p = accepted (record { columns = cs; rows = p.0 }, p.1)
 
   abbrev behind_count : List ℕ → ℕ × Rest → Reply (Table × Rest)
-  behind_count cs p = read_rows columns cs p.0 none p.1 >>= made cs
+  behind_count cs p = read_rows columns cs p.0 None p.1 >>= made cs
 
   abbrev behind_cols : List ℕ × Rest → Reply (Table × Rest)
   behind_cols p = due DatabaseForm (count_line "rows=" rows_limit) p.1 >>= behind_count p.0
@@ -80,27 +93,27 @@ module _ (text : List ℕ) (c : Cursor) where
   unfolding read_table
   by_cols o e = ap (λ r. r >>= behind_cols) (due_reply_lem (cols_line columns) text c DatabaseForm ∙ ap (due_reply (cols_line columns) text c DatabaseForm) e)
 
-  pub table_off : due_line (cols_line columns) text c ≡ none → table_read ≡ refused (DatabaseForm c.line)
-  table_off e = by_cols none e
+  pub table_off : due_line (cols_line columns) text c ≡ None → table_read ≡ refused (DatabaseForm c.line)
+  table_off e = by_cols None e
 
-  module _ (cs : List ℕ) (second : Cursor) (e : due_line (cols_line columns) text c ≡ some (cs, second)) where
+  module _ (cs : List ℕ) (second : Cursor) (e : due_line (cols_line columns) text c ≡ Some (cs, second)) where
     by_count : (o : Option (ℕ × Cursor)) → due_line (count_form (bytes "rows=") rows_limit) text second ≡ o
         → table_read ≡ (due_reply (count_form (bytes "rows=") rows_limit) text second DatabaseForm o >>= behind_count cs)
     by_count o q =
-        by_cols (some (cs, second)) e
+        by_cols (Some (cs, second)) e
         ∙ ap (λ f. due DatabaseForm f (rest_at text second) >>= behind_count cs) (count_form_lem "rows=" rows_limit)
         ∙ ap (λ r. r >>= behind_count cs)
         (due_reply_lem (count_form (bytes "rows=") rows_limit) text second DatabaseForm ∙ ap (due_reply (count_form (bytes "rows=") rows_limit) text second DatabaseForm) q)
 
-    pub table_uncounted : due_line (count_form (bytes "rows=") rows_limit) text second ≡ none → table_read ≡ refused (DatabaseForm second.line)
-    table_uncounted q = by_count none q
+    pub table_uncounted : due_line (count_form (bytes "rows=") rows_limit) text second ≡ None → table_read ≡ refused (DatabaseForm second.line)
+    table_uncounted q = by_count None q
 
-    module _ (n : ℕ) (first : Cursor) (q : due_line (count_form (bytes "rows=") rows_limit) text second ≡ some (n, first)) where
+    module _ (n : ℕ) (first : Cursor) (q : due_line (count_form (bytes "rows=") rows_limit) text second ≡ Some (n, first)) where
       abbrev lines : Reply (Rows × Rest)
-      lines = read_rows columns cs n none (rest_at text first)
+      lines = read_rows columns cs n None (rest_at text first)
 
       by_rows : table_read ≡ (lines >>= made cs)
-      by_rows = by_count (some (n, first)) q
+      by_rows = by_count (Some (n, first)) q
 
       made_same : (p : Rows × Rest) (q : Table × Rest) → made cs p ≡ accepted q → row_entries p ≡ table_stored q
       made_same p q e = ap table_stored (accepted_same e)
@@ -115,15 +128,17 @@ module _ (text : List ℕ) (c : Cursor) where
             stores_then row_entries table_stored lines (made cs) made_same from store write (subst (MayStore table_stored write from store) by_rows may)
             ∙ ap (λ r. stores write from (read_entries table_stored r) store) (sym by_rows)
 
-      pub table_walks : (w : Walked) → Walks text w lines (λ rows. length rows ≡ n) → (r : ReadTable) → r.columns ≡ cols_set cs → r.rows ≡ n
-          → Walks text w table_read (GoodTable r)
-      table_walks (Next d) p r a b = record {
+      pub table_passed : (d : Cursor) → Passed text d lines (λ rows. length rows ≡ n) → (r : ReadTable) → r.columns ≡ cols_set cs → r.rows ≡ n
+          → Passed text d table_read (GoodTable r)
+      table_passed d p r a b = record {
         placed = p.placed;
         value = record { columns = cs; rows = p.value };
         read = by_rows ∙ ap (λ r. r >>= made cs) p.read;
         good = record { cols = a; rows = b ∙ sym p.good };
       }
-      table_walks (Bad l) k r a b = by_rows ∙ ap (λ r. r >>= made cs) k
+
+      pub table_refused : (q : Refusal) → lines ≡ refused q → table_read ≡ refused q
+      table_refused q k = by_rows ∙ ap (λ r. r >>= made cs) k
 
 -- a database with one more table
 pub table_added : (ts : List Table) (t : Table) → length ts < table_limit
@@ -217,8 +232,8 @@ module _ (text : List ℕ) (first : Cursor) (count : ℕ) (write : Bool) (store�
         table_kept q e =
             walk_kept (many_again (read_table columns)) tables_laid count tt text first write 0 store₀ store c at i t.tables t.walk may h q e
 
-    pub tables_passed : count ≤ i → (w : Walked) → Passed text c tables_read (GoodTables (record { database = database; size = at; walked = w }))
-    tables_passed h w = record {
+    pub tables_passed : count ≤ i → Passed text c tables_read (GoodTables (record { database = database; size = at }))
+    tables_passed h = record {
       placed = t.walk.placed;
       value = t.tables;
       read = walk_all (many_again (read_table columns)) tables_laid count tt text first write 0 store₀ store c at i t.tables t.walk h;

@@ -1,7 +1,7 @@
 -- A walk over a whole text, and what is loaded of it.
 use mathlib.Core.Path.{◌≡◌, refl, ap, sym, ◌∙◌}
 use mathlib.Core.Bool.{Bool, true, false}
-use mathlib.Core.Option.{Option, some, none}
+use Rattle.std.specs.Prelude.{Option, Some, None}
 use mathlib.Core.List.{List, [], flat_map}
 use Prim.Native.Nat.{ℕ, ◌≤◌, ◌<◌}
 use native.Mathlib.Omega.{arith}
@@ -11,36 +11,34 @@ use borrow.Author.Tests.{le-leb, lt-leb}
 use Rattle.relation.specs.Rows.{columns}
 use Rattle.database.specs.declared.Refusal.{Refusal}
 use Rattle.database.specs.declared.Refusal.TheVariants.{DatabaseForm, ShortSlice}
-use Rattle.database.specs.declared.Verdict.TheVariants.{Accepted}
+use Rattle.std.specs.Prelude.{Ok}
 use Rattle.database.specs.Stored.{table_limit}
 use Rattle.database.specs.Refusals.{Reply, refused, accepted, require, ◌>>=◌}
 use Rattle.database.proofs.Replies.{accepted_same, accepted_then}
 use Rattle.text.specs.declared.line_reader.Cursor.{Cursor}
-use Rattle.text.specs.declared.line_reader.Opened.{Opened}
-use Rattle.text.specs.declared.line_reader.Opened.TheVariants as opened
 use Rattle.text.specs.Numbers.{bytes}
 use Rattle.text.specs.Lines.{Rest, many, ended}
 use Rattle.text.specs.Texts.{Table, read_table, read_tables, read_database, database_value, table_entries}
 use Rattle.text.specs.Replies.{read_or, load_tables, store_after}
-use Rattle.text.specs.Cursors.{rest_at, due_line, word_form, count_form, start, counted, headed, opened_at}
+use Rattle.text.specs.Cursors.{rest_at, due_line, word_form, count_form, start, Opened, counted, headed, opened_at}
 use Rattle.text.proofs.ReaderLawsDue.{behind_opened, opening_reply}
 use Rattle.text.proofs.EmptyText.{empty_read, others_read, accepted_read}
-use Rattle.loading.specs.declared.table_reader.ReadTables.{ReadTables}
+use Rattle.loading.specs.declared.table_reader.ReadText.{ReadText}
 use Rattle.loading.specs.Loading.{stores, read_entries, MayStore, Passed, tables_stored, GoodTables, text_reply, tables_behind, OnForm, text_or}
 use Rattle.loading.proofs.Stores.{may_first, stores_then}
 use Rattle.loading.proofs.TableWalks.{count_bound, tables_read}
 
 -- the count of a text's opening is in its range
-pub opened_most : (key : List ℕ) (most : ℕ) (text : List ℕ) (n : ℕ) (c : Cursor) → opened.Count n c ≡ opened_at key most text → n ≤ most
+pub opened_most : (key : List ℕ) (most : ℕ) (text : List ℕ) (n : ℕ) (c : Cursor) → Ok (n, c) ≡ opened_at key most text → n ≤ most
 opened_most key most text n c e = by_head (due_line (word_form (bytes "guide=1")) text start) e
   where
-    by_count : (d : Cursor) (o : Option (ℕ × Cursor)) → due_line (count_form key most) text d ≡ o → opened.Count n c ≡ counted d o → n ≤ most
-    by_count d none q e = let z : ◌≡◌ {A = ℕ} 0 1 = cc in let w : ⊥ = omega arith in absurd w
-    by_count d (some p) q e = let y : n ≡ p.0 = cc in rw y (count_bound key most text d p.1 p.0 q)
+    by_count : (d : Cursor) (o : Option (ℕ × Cursor)) → due_line (count_form key most) text d ≡ o → Ok (n, c) ≡ counted d o → n ≤ most
+    by_count d None q e = let z : ◌≡◌ {A = ℕ} 0 1 = cc in let w : ⊥ = omega arith in absurd w
+    by_count d (Some p) q e = let y : n ≡ p.0 = cc in rw y (count_bound key most text d p.1 p.0 q)
 
-    by_head : (o : Option (Unit {0} × Cursor)) → opened.Count n c ≡ headed key most text o → n ≤ most
-    by_head none e = let z : ◌≡◌ {A = ℕ} 0 1 = cc in let w : ⊥ = omega arith in absurd w
-    by_head (some p) e = by_count p.1 (due_line (count_form key most) text p.1) refl e
+    by_head : (o : Option (Unit {0} × Cursor)) → Ok (n, c) ≡ headed key most text o → n ≤ most
+    by_head None e = let z : ◌≡◌ {A = ℕ} 0 1 = cc in let w : ⊥ = omega arith in absurd w
+    by_head (Some p) e = by_count p.1 (due_line (count_form key most) text p.1) refl e
 
 -- what stands behind the lines that open a database's text
 abbrev finish : List Table × Rest → Reply (List Table)
@@ -73,15 +71,15 @@ module _ (text : List ℕ) (first : Cursor) (count : ℕ) (write : Bool) (store 
       → stores write 0 (read_entries tables_stored lines) store ≡ stores write 0 (read_entries table_entries (tables_behind columns text first count)) store
   behind_stored may = stores_then tables_stored table_entries lines finish finish_same 0 store write may
 
-  pub text_ended : (c : Cursor) (r : ReadTables) → Passed text c lines (GoodTables r)
+  pub text_ended : (c : Cursor) (r : ReadText) → Passed text c lines (GoodTables r)
       → text_or r (ended DatabaseForm (rest_at text c)) ≡ text_reply (tables_behind columns text first count)
   text_ended c r p = by_case (ended DatabaseForm (rest_at text c)) ∙ ap (λ x. text_reply (x >>= finish)) (sym p.read)
     where
       by_case : (e : Reply (Unit {0})) → text_or r e ≡ text_reply (e >>= λ _. accepted p.value)
       by_case (refused q) = refl
       by_case (accepted u) =
-          ap (λ d. record { database = d; size = r.size; verdict = Accepted }) p.good.value
-          ∙ ap (λ n. record { database = database_value columns p.value; size = n; verdict = Accepted }) p.good.size
+          ap (λ d. Ok (record { database = d; size = r.size })) p.good.value
+          ∙ ap (λ n. Ok (record { database = database_value columns p.value; size = n })) p.good.size
 
   pub text_refused : (q : Refusal) → lines ≡ refused q → text_reply (refused q) ≡ text_reply (tables_behind columns text first count)
   text_refused q e = ap (λ x. text_reply (x >>= finish)) (sym e)

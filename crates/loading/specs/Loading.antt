@@ -7,18 +7,16 @@ use Rattle.relation.specs.declared.Columns.{Columns}
 use Rattle.relation.specs.Rows.{Rows, columns, columns_of, entries}
 use Rattle.database.specs.declared.Database.{Database}
 use Rattle.database.specs.declared.Refusal.TheVariants.{DatabaseForm}
-use Rattle.database.specs.declared.Verdict.TheVariants.{Accepted}
-use Rattle.database.specs.Refusals.{Reply, refused, accepted, verdict, ◌>>=◌}
+use Rattle.std.specs.Prelude.{Result, Ok, Err}
+use Rattle.database.specs.declared.Refusal.{Refusal}
+use Rattle.database.specs.Refusals.{Reply, refused, accepted, ◌>>=◌}
 use Rattle.text.specs.declared.line_reader.Cursor.{Cursor}
+use Rattle.text.specs.declared.line_reader.BadLine.{BadLine}
 use Rattle.text.specs.Lines.{Rest, many, ended}
 use Rattle.text.specs.Texts.{Table, read_table, read_tables, database_value, table_entries}
-use Rattle.text.specs.Replies.{read_or}
 use Rattle.text.specs.Cursors.{rest_at, Placed}
-use Rattle.loading.specs.declared.table_reader.Walked.{Walked}
-use Rattle.loading.specs.declared.table_reader.Walked.TheVariants.{Next, Bad}
 use Rattle.loading.specs.declared.table_reader.ReadTable.{ReadTable}
-use Rattle.loading.specs.declared.table_reader.ReadTables.{ReadTables}
-use Rattle.loading.specs.declared.database_reader.ReadText.{ReadText}
+use Rattle.loading.specs.declared.table_reader.ReadText.{ReadText}
 
 -- entries in place of as many others from a place on, where the walk stores; else nothing changes
 abbrev pub stores : Bool → ℕ → List ℕ → List ℕ → List ℕ
@@ -46,9 +44,14 @@ pub record Passed {A : Type 0} (text : List ℕ) (c : Cursor) (r : Reply (A × R
   pub read : r ≡ accepted (value, rest_at text c)
   pub good : Good value
 
-abbrev pub Walks : {A : Type 0} → List ℕ → Walked → Reply (A × Rest) → (A → Type 0) → Type 0
-Walks text (Next c) r Good = Passed text c r Good
-Walks text (Bad line) r Good = r ≡ refused (DatabaseForm line)
+abbrev pub Walks : {A : Type 0} → List ℕ → Result Cursor BadLine → Reply (A × Rest) → (A → Type 0) → Type 0
+Walks text (Ok c) r Good = Passed text c r Good
+Walks text (Err bad) r Good = r ≡ refused (DatabaseForm bad.line)
+
+-- the same of a walk that tells what it read
+abbrev pub Reads : {A R : Type 0} → List ℕ → Result (R × Cursor) BadLine → Reply (A × Rest) → (R → A → Type 0) → Type 0
+Reads text (Ok p) r Good = Passed text p.1 r (Good p.0)
+Reads text (Err bad) r Good = r ≡ refused (DatabaseForm bad.line)
 
 -- rows behind each other, and their entries
 abbrev pub row_entries : Rows × Rest → List ℕ
@@ -72,13 +75,14 @@ with_table d cs n =
 abbrev pub tables_stored : List Table × Rest → List ℕ
 tables_stored p = table_entries p.0
 
-pub record GoodTables (r : ReadTables) (ts : List Table) : Type 0 where
+pub record GoodTables (r : ReadText) (ts : List Table) : Type 0 where
   pub value : r.database ≡ database_value columns ts
   pub size : r.size ≡ length (table_entries ts)
 
 -- a whole text
-abbrev pub text_reply : Reply (List Table) → ReadText
-text_reply r = record { database = database_value columns (read_or r); size = length (table_entries (read_or r)); verdict = verdict r }
+abbrev pub text_reply : Reply (List Table) → Result ReadText Refusal
+text_reply (refused r) = Err r
+text_reply (accepted ts) = Ok (record { database = database_value columns ts; size = length (table_entries ts) })
 
 -- n tables from a cursor on, and "nothing after the last"
 abbrev pub tables_behind : ℕ → List ℕ → Cursor → ℕ → Reply (List Table)
@@ -93,6 +97,6 @@ pub record OnForm (text : List ℕ) (size : ℕ) : Type 0 where
   pub read : read_tables columns text ≡ accepted value
   pub sized : size ≡ length (table_entries value)
 
-abbrev pub text_or : ReadTables → Reply (Unit {0}) → ReadText
-text_or r (refused q) = text_reply (refused q)
-text_or r (accepted u) = record { database = r.database; size = r.size; verdict = Accepted }
+abbrev pub text_or : ReadText → Reply (Unit {0}) → Result ReadText Refusal
+text_or r (refused q) = Err q
+text_or r (accepted u) = Ok r

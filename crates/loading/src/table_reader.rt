@@ -1,7 +1,7 @@
 // Reading a book's tables: "for each table `cols=` …, `rows=R` (0–4,096), and R lines `row=`". The same walk looks at the forms and, with
 // `write`, stores the rows from a place of the store on.
 ghost use Rattle.std.specs.Prelude.{◌≡◌, true, [], ◌+◌, ◌*◌, ◌≤◌, ◌<◌, length};
-ghost use Rattle.std.proofs.Math.Option.{none};
+ghost use Rattle.std.specs.Prelude.{None};
 ghost use borrow.Rule.Slice.PartMut.{put_mid};
 ghost use Rattle.laws.specs.Lists.{member};
 ghost use Rattle.relation.specs.Rows.{columns};
@@ -10,36 +10,27 @@ ghost use Rattle.text.specs.Lines.{many};
 ghost use Rattle.text.specs.Texts.{read_rows, read_table, database_value};
 ghost use Rattle.text.specs.Cursors.{rest_at, Placed};
 ghost use Rattle.row_reading.specs.NumberArrays.{listed};
-ghost use Rattle.loading.specs.Loading.{stores, read_entries, MayStore, Walks, row_entries, table_stored, cols_set, GoodTable, tables_stored, GoodTables, with_table};
+ghost use Rattle.loading.specs.Loading.{stores, read_entries, MayStore, Walks, Reads, row_entries, table_stored, cols_set, GoodTable, tables_stored, GoodTables, with_table};
 
 use column_sets::no_columns;
 use database::{Database, TABLE_ROWS, TABLES};
 use relation::{COLUMNS, Columns, Row};
 use row_reading::list_reader::{Numbers, number_at};
 use row_reading::row_reader::{due_cols, due_row};
-use text::line_reader::{Cursor, Due, DueCount, due_count};
+use text::line_reader::{BadLine, Cursor, due_count};
 
-// Where a walk ends: behind what was read, or at the first bad line.
-#[derive(Clone, Copy)]
-pub enum Walked {
-    Next(Cursor),
-    Bad(usize),
-}
-
-// A table's columns and row count, and where its walk ends.
+// A table's columns and row count.
 #[derive(Clone, Copy)]
 pub struct ReadTable {
     pub columns: Columns,
     pub rows: usize,
-    pub walked: Walked,
 }
 
-// Tables behind each other: the database, how many entries its rows take, and where the walk ends.
+// Tables behind each other: the database, and how many entries its rows take.
 #[derive(Clone, Copy)]
-pub struct ReadTables {
+pub struct ReadText {
     pub database: Database,
     pub size: usize,
-    pub walked: Walked,
 }
 
 // A row's slots from a place of the store on.
@@ -62,7 +53,7 @@ fn store_row(store: &mut [u32], at: usize, row: Row, write: bool)
     }
 }
 
-// So many `row=` lines, each after the one above.
+// So many `row=` lines, each after the one above, and the place behind them.
 fn read_rows(
     text: &[u8],
     first: Cursor,
@@ -71,32 +62,26 @@ fn read_rows(
     store: &mut [u32],
     from: usize,
     write: bool,
-) -> Walked
+) -> Result<Cursor, BadLine>
     requires { Placed first × (cols.count ≤ columns) × (from ≤ table_limit * (rows_limit * columns)) × (count ≤ rows_limit)
-        × MayStore row_entries write from store.old (read_rows columns (listed cols) count none (rest_at text.now first)) }
-    ensures walks { Walks text.now result (read_rows columns (listed cols) count none (rest_at text.now first)) (λ rows. length rows ≡ count) }
+        × MayStore row_entries write from store.old (read_rows columns (listed cols) count None (rest_at text.now first)) }
+    ensures walks { Walks text.now result (read_rows columns (listed cols) count None (rest_at text.now first)) (λ rows. length rows ≡ count) }
     ensures store_after { store.new ≡ stores write from
-        (read_entries row_entries (read_rows columns (listed cols) count none (rest_at text.now first))) store.old }
+        (read_entries row_entries (read_rows columns (listed cols) count None (rest_at text.now first))) store.old }
 {
     let mut c = first;
-    let mut above = Row {
-        slots: [0; COLUMNS],
-    };
+    let mut above = None;
     let mut at = from;
-    let mut i: u32 = 0;
-    while i < count {
-        let read = due_row(text, c, cols, i == 0, above);
-        let due = read.due;
-        let Due::Next(next) = due else {
-            return Walked::Bad(c.line);
+    for i in 0..count {
+        let Some((row, next)) = due_row(text, c, cols, above) else {
+            return Err(BadLine { line: c.line });
         };
-        above = read.row;
-        store_row(store, at, above, write);
+        store_row(store, at, row, write);
+        above = Some(row);
         at += COLUMNS;
         c = next;
-        i += 1;
     }
-    Walked::Next(c)
+    Ok(c)
 }
 
 // Whether a column is in a list.
@@ -125,43 +110,36 @@ fn columns_of(cols: Numbers) -> Columns
     set
 }
 
-fn bad_table(line: usize) -> ReadTable
-    ensures { result.walked ≡ Walked.Bad line }
-{
-    ReadTable {
-        columns: no_columns(),
-        rows: 0,
-        walked: Walked::Bad(line),
-    }
-}
-
 // A table: its columns, its row count and its rows.
-fn read_table(text: &[u8], c: Cursor, store: &mut [u32], from: usize, write: bool) -> ReadTable
+fn read_table(
+    text: &[u8],
+    c: Cursor,
+    store: &mut [u32],
+    from: usize,
+    write: bool,
+) -> Result<(ReadTable, Cursor), BadLine>
     requires { Placed c × (from ≤ table_limit * (rows_limit * columns))
         × MayStore table_stored write from store.old (read_table columns (rest_at text.now c)) }
-    ensures walks { Walks text.now result.walked (read_table columns (rest_at text.now c)) (GoodTable result) }
+    ensures walks { Reads text.now result (read_table columns (rest_at text.now c)) GoodTable }
     ensures store_after { store.new ≡ stores write from
         (read_entries table_stored (read_table columns (rest_at text.now c))) store.old }
 {
-    let read = due_cols(text, c);
-    let due = read.due;
-    let Due::Next(second) = due else {
-        return bad_table(c.line);
+    let Some((cols, second)) = due_cols(text, c) else {
+        return Err(BadLine { line: c.line });
     };
-    let cols = read.cols;
-    let DueCount::Count(count, at) = due_count(text, second.at, b"rows=", TABLE_ROWS as u32) else {
-        return bad_table(second.line);
+    let Some((count, at)) = due_count(text, second.at, b"rows=", TABLE_ROWS as u32) else {
+        return Err(BadLine { line: second.line });
     };
     let first = Cursor {
         at,
         line: second.line + 1,
     };
-    let walked = read_rows(text, first, cols, count, store, from, write);
-    ReadTable {
+    let next = read_rows(text, first, cols, count, store, from, write)?;
+    let table = ReadTable {
         columns: columns_of(cols),
         rows: count as usize,
-        walked,
-    }
+    };
+    Ok((table, next))
 }
 
 // A database without tables.
@@ -196,36 +174,21 @@ pub(crate) fn read_tables(
     count: u32,
     store: &mut [u32],
     write: bool,
-) -> ReadTables
+) -> Result<(ReadText, Cursor), BadLine>
     requires { Placed first × (count ≤ table_limit)
         × MayStore tables_stored write 0 store.old (many (read_table columns) count (rest_at text.now first)) }
-    ensures walks { Walks text.now result.walked (many (read_table columns) count (rest_at text.now first)) (GoodTables result) }
+    ensures walks { Reads text.now result (many (read_table columns) count (rest_at text.now first)) GoodTables }
     ensures store_after { store.new ≡ stores write 0
         (read_entries tables_stored (many (read_table columns) count (rest_at text.now first))) store.old }
 {
     let mut database = no_tables();
     let mut c = first;
     let mut at: usize = 0;
-    let mut i: u32 = 0;
-    while i < count {
-        let table = read_table(text, c, store, at, write);
-        let walked = table.walked;
-        let Walked::Next(next) = walked else {
-            return ReadTables {
-                database,
-                size: at,
-                walked,
-            };
-        };
-        let columns = table.columns;
-        database = with_table(database, columns, table.rows);
+    for i in 0..count {
+        let (table, next) = read_table(text, c, store, at, write)?;
+        database = with_table(database, table.columns, table.rows);
         at += COLUMNS * table.rows;
         c = next;
-        i += 1;
     }
-    ReadTables {
-        database,
-        size: at,
-        walked: Walked::Next(c),
-    }
+    Ok((ReadText { database, size: at }, c))
 }

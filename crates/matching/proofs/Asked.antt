@@ -22,7 +22,7 @@ use Rattle.query.specs.declared.Facts.{Facts}
 use Rattle.query.specs.Lines.{node_limit, nodes, on_form, lines}
 use Rattle.query.specs.Facts.{visits, facts_of}
 use Rattle.query.proofs.CheckReply.{Checked}
-use Rattle.matching.specs.Found.{is_found, stable_at, unused_at, closed_at}
+use Rattle.matching.specs.Found.{stable_at, unused_at, closed_at}
 use Rattle.matching.proofs.Standing.{Here, pair_left, pair_right, filter_down, drop_down}
 use Rattle.matching.proofs.Loops.{here_formed, here_closed, unstable_is, used_is, shared_is, others_is}
 use Rattle.matching.proofs.Matched.{found_of}
@@ -41,14 +41,6 @@ filter_formed f a e = and_true_left (every (λ c. ltb c columns) (named f)) true
 drop_formed : (c : ℕ) (a : Term) → every (on_form columns) (lines (drop c a)) ≡ true → c < columns
 unfolding lines every
 drop_formed c a e = ltb-true c columns (and_true_left (ltb c columns) true (every_split (on_form columns) (lines a) _ e).1)
-
-pub match_found : (s : ℕ) (m : Match) → is_found (found_of s m) ≡ true
-match_found s (filter_fix f x) = refl
-match_found s (fix_join x o) = refl
-match_found s (join_fix o x) = refl
-match_found s (fix_except x o) = refl
-match_found s (drop_fix c x) = refl
-match_found s (fix_fix x y) = refl
 
 module _ (d : Database) (limit : ℕ) (q : Query) (t : Term) (checked : Checked limit q (schema columns d) t) (counted : length (nodes q) ≡ q.count) (fits : q.count ≤ node_limit) where
   abbrev G : Schema

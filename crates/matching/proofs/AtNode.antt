@@ -1,6 +1,6 @@
 -- A step at a node of a checked query, for any rule: what a rule replies for the term of each node is what the definition replies at the node.
 use mathlib.Core.Path.{◌≡◌, ap, ap₂, sym, ◌∙◌}
-use mathlib.Core.Option.{Option, some, none}
+use Rattle.std.specs.Prelude.{Option, Some, None}
 use Prim.Native.Nat.{ℕ, ◌+◌, ◌-◌, ◌≤◌, ◌<◌}
 use native.Mathlib.Omega.{arith}
 use native.Mathlib.Decide.{dec_lt}
@@ -42,15 +42,15 @@ module _ (d : Database) (q : Query) (t : Term) (written : nodes q ≡ lines t) (
 
   -- reply: what is replied by the index
   module _ (R : Cols → Term → Reply Term) (reply : ℕ → Reply Query) (n : ℕ) where
-    past : q.count < n → ended_at (nodes q) n ≡ none
+    past : q.count < n → ended_at (nodes q) n ≡ None
     unfolding ended_at
     past h = rw (lt-leb n (length (nodes q)) (omega arith))
 
-    ended : {C : Cols} {s : ℕ} (a : Term) → Here d q t written C s a → s + size a ≡ n → n ≤ q.count → ended_at (nodes q) n ≡ some a
+    ended : {C : Cols} {s : ℕ} (a : Term) → Here d q t written C s a → s + size a ≡ n → n ≤ q.count → ended_at (nodes q) n ≡ Some a
     unfolding ended_at
     ended a h e i = rw (le-leb n (length (nodes q)) (omega arith)) (ap top (here_reads d q t written h n e))
 
-    first : n ≡ 0 → ended_at (nodes q) n ≡ none
+    first : n ≡ 0 → ended_at (nodes q) n ≡ None
     unfolding ended_at read
     first e = rw (e, le-leb 0 (length (nodes q)) (omega arith))
 

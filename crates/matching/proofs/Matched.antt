@@ -1,6 +1,6 @@
 -- What a kind finds at a node by its line is what its rule matches in the node's term.
 use mathlib.Core.Path.{◌≡◌, refl, ap, ap₂, sym, ◌∙◌}
-use mathlib.Core.Option.{Option, some, none}
+use Rattle.std.specs.Prelude.{Option, Some, None, option_and_then}
 use mathlib.Core.List.{[]}
 use Prim.Native.Nat.{ℕ, ◌+◌, ◌-◌, ◌≤◌}
 use native.Mathlib.Omega.{arith}
@@ -27,7 +27,7 @@ use Rattle.query.proofs.CheckReply.{Checked}
 use Rattle.query.proofs.Starts.{size_pos}
 use Rattle.rewrite.specs.Places.{line_at, start_at, last}
 use Rattle.matching.specs.declared.Found.{Found}
-use Rattle.matching.specs.declared.Found.TheVariants.{Nothing, FilterFix, FixJoin, JoinFix, FixExcept, DropFix, FixFix}
+use Rattle.matching.specs.declared.Found.TheVariants.{FilterFix, FixJoin, JoinFix, FixExcept, DropFix, FixFix}
 use Rattle.matching.specs.Found.{right_of, left_of, over_fix, line_found, found_at}
 use Rattle.matching.proofs.Standing.{Here, pair_left, pair_right, filter_down, drop_down}
 use Rattle.matching.proofs.Loops.{here_told}
@@ -41,9 +41,9 @@ found_of s (fix_except x o) = FixExcept (last s (fix_of x)) (last (s + size (fix
 found_of s (drop_fix c x) = DropFix c (last s (fix_of x))
 found_of s (fix_fix x y) = FixFix (last s (fix_of x)) (last (s + size (fix_of x)) (fix_of y))
 
-abbrev pub found : ℕ → Option Match → Found
-found s none = Nothing
-found s (some m) = found_of s m
+abbrev pub found : ℕ → Option Match → Option Found
+found s None = None
+found s (Some m) = Some (found_of s m)
 
 -- an operand is a fix by its line or by its term
 over_found : (q : Query) (s n : ℕ) (b : Term) → line_at q (last n b) ≡ root b → (m : Found) (mk : Loop → Match) → ((x : Loop) → fix_of x ≡ b → m ≡ found_of s (mk x))
@@ -57,11 +57,11 @@ over_found q s n (filter f a) e m mk ok = rw e
 over_found q s n (copy c x a) e m mk ok = rw e
 over_found q s n (drop c a) e m mk ok = rw e
 over_found q s n (latest c a) e m mk ok = rw e
-over_found q s n (fix v a b) e m mk ok = rw e (ok (record { var = v; seed = a; step = b }) refl)
+over_found q s n (fix v a b) e m mk ok = rw e (ap Some (ok (record { var = v; seed = a; step = b }) refl))
 over_found q s n (mu v a) e m mk ok = rw e
 
 both_found : (q : Query) (s : ℕ) (a b : Term) → line_at q (last s a) ≡ root a → line_at q (last (s + size a) b) ≡ root b
-    → over_fix q (last s a) (over_fix q (last (s + size a) b) (FixFix (last s a) (last (s + size a) b))) ≡ found s (over_both (loop_of a) (loop_of b))
+    → option_and_then (over_fix q (last (s + size a) b)) (over_fix q (last s a) (FixFix (last s a) (last (s + size a) b))) ≡ found s (over_both (loop_of a) (loop_of b))
 unfolding over_both loop_of
 both_found q s (table x) b e f = rw e
 both_found q s (var x) b e f = rw e
@@ -72,7 +72,7 @@ both_found q s (copy c x y) b e f = rw e
 both_found q s (drop c x) b e f = rw e
 both_found q s (latest c x) b e f = rw e
 both_found q s (fix v x y) b e f =
-    ap (λ (z : Node). when has_step z then over_fix q (last (s + size (fix v x y)) b) (FixFix (last s (fix v x y)) (last (s + size (fix v x y)) b)) else Nothing) e
+    ap (λ (z : Node). option_and_then (over_fix q (last (s + size (fix v x y)) b)) (when has_step z then Some (FixFix (last s (fix v x y)) (last (s + size (fix v x y)) b)) else None)) e
     ∙ over_found q s (s + size (fix v x y)) b f _ (fix_fix (record { var = v; seed = x; step = y })) (λ z i. ap (λ (w : Term). FixFix (last s (fix v x y)) (last (s + size (fix v x y)) w)) (sym i))
 both_found q s (mu v x) b e f = rw e
 
@@ -89,17 +89,17 @@ module _ (d : Database) (limit : ℕ) (q : Query) (t : Term) (checked : Checked 
   line : {C : Cols} {n : ℕ} {a : Term} → At C n a → line_at q (last n a) ≡ root a
   line h = (here_told d limit q t checked counted fits h).line
 
-  abbrev join : ℕ → ℕ → Found
+  abbrev join : ℕ → ℕ → Option Found
   join x y =
       when eqb k 2 then over_fix q x (FixJoin x y)
       else
       when eqb k 3 then over_fix q y (JoinFix x y)
       else
-      when eqb k 6 then over_fix q x (over_fix q y (FixFix x y))
-      else Nothing
+      when eqb k 6 then option_and_then (over_fix q y) (over_fix q x (FixFix x y))
+      else None
 
-  abbrev except : ℕ → ℕ → Found
-  except x y = when eqb k 4 then over_fix q x (FixExcept x y) else Nothing
+  abbrev except : ℕ → ℕ → Option Found
+  except x y = when eqb k 4 then over_fix q x (FixExcept x y) else None
 
   -- the operands of a pair by their places
   module _ {C : Cols} {s : ℕ} {o : Pairing} {a b : Term} (h : At C s (pair o a b)) where
@@ -132,23 +132,23 @@ module _ (d : Database) (limit : ℕ) (q : Query) (t : Term) (checked : Checked 
       (over_found q s s a (left_line h) _ (λ x. fix_join x b) (λ x e. ap (λ (y : Term). FixJoin (last s y) (last (s + size y) b)) (sym e)))
       (if_map (found s) (eqb k 3) (over (join_fix a) (loop_of b)) _
       (over_found q s (s + size a) b (right_line h) _ (join_fix a) (λ x e. ap (λ (y : Term). JoinFix (last s a) (last (s + size a) y)) (sym e)))
-      (if_map (found s) (eqb k 6) (over_both (loop_of a) (loop_of b)) none (both_found q s a b (left_line h) (right_line h)) refl))
+      (if_map (found s) (eqb k 6) (over_both (loop_of a) (loop_of b)) None (both_found q s a b (left_line h) (right_line h)) refl))
   found_at_lem {s = s} (pair Except a b) h =
       ap (line_found q facts k (last s (pair Except a b))) (line h) ∙ ap₂ except (left_is h) (right_is h)
-      ∙ if_map (found s) (eqb k 4) (over (λ x. fix_except x b) (loop_of a)) none
+      ∙ if_map (found s) (eqb k 4) (over (λ x. fix_except x b) (loop_of a)) None
       (over_found q s s a (left_line h) _ (λ x. fix_except x b) (λ x e. ap (λ (y : Term). FixExcept (last s y) (last (s + size y) b)) (sym e))) refl
   found_at_lem {s = s} (filter f a) h =
       let e : right_of (last s (filter f a)) ≡ last s a = omega arith in
       ap (line_found q facts k (last s (filter f a))) (line h)
-      ∙ ap (λ (j : ℕ). when eqb k 1 then over_fix q j (FilterFix f j) else Nothing) e
-      ∙ if_map (found s) (eqb k 1) (over (filter_fix f) (loop_of a)) none
+      ∙ ap (λ (j : ℕ). when eqb k 1 then over_fix q j (FilterFix f j) else None) e
+      ∙ if_map (found s) (eqb k 1) (over (filter_fix f) (loop_of a)) None
       (over_found q s s a (line (filter_down d q t checked.written h)) _ (filter_fix f) (λ x e. ap (λ (y : Term). FilterFix f (last s y)) (sym e))) refl
   found_at_lem {s = s} (copy c x a) h = ap (line_found q facts k (last s (copy c x a))) (line h)
   found_at_lem {s = s} (drop c a) h =
       let e : right_of (last s (drop c a)) ≡ last s a = omega arith in
       ap (line_found q facts k (last s (drop c a))) (line h)
-      ∙ ap (λ (j : ℕ). when eqb k 5 then over_fix q j (DropFix c j) else Nothing) e
-      ∙ if_map (found s) (eqb k 5) (over (drop_fix c) (loop_of a)) none
+      ∙ ap (λ (j : ℕ). when eqb k 5 then over_fix q j (DropFix c j) else None) e
+      ∙ if_map (found s) (eqb k 5) (over (drop_fix c) (loop_of a)) None
       (over_found q s s a (line (drop_down d q t checked.written h)) _ (drop_fix c) (λ x e. ap (λ (y : Term). DropFix c (last s y)) (sym e))) refl
   found_at_lem {s = s} (latest c a) h = ap (line_found q facts k (last s (latest c a))) (line h)
   found_at_lem {s = s} (fix v a b) h = ap (line_found q facts k (last s (fix v a b))) (line h)

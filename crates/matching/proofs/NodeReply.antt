@@ -1,7 +1,7 @@
 -- On a checked query what kinds 1 to 6 reply by the indices is what document 01's rules reply.
 use mathlib.Core.Path.{◌≡◌, refl, ap, ap₂, sym, ◌∙◌, subst}
 use mathlib.Core.Bool.{Bool, true, false}
-use mathlib.Core.Option.{Option, some, none}
+use Rattle.std.specs.Prelude.{Option, Some, None}
 use mathlib.Core.List.{List, []}
 use Prim.Native.Nat.{ℕ, ◌+◌, ◌-◌, ◌≤◌, ◌<◌}
 use native.Mathlib.Omega.{arith}
@@ -30,22 +30,16 @@ use Rattle.query.proofs.CheckedTerms.{own_checked}
 use Rattle.query.proofs.Starts.{size_pos}
 use Rattle.rewrite.specs.Places.{line_at, start_at, last}
 use Rattle.rewrite.specs.Rewrite.{rule, replaced, with_nodes}
+use Rattle.matching.specs.declared.Found.{Found}
 use Rattle.matching.specs.Found.{found_at, Placed, stable_at, unused_at, written_at, reply_to}
 use Rattle.matching.proofs.Standing.{Here}
 use Rattle.matching.proofs.AtNode.{node_at_lem, replaced_by}
 use Rattle.matching.proofs.Loops.{low, here_told, step_start}
 use Rattle.matching.proofs.Matched.{found_of, found, found_at_lem}
-use Rattle.matching.proofs.Asked.{match_found, stable_is, unused_is, closed_is}
+use Rattle.matching.proofs.Asked.{stable_is, unused_is, closed_is}
 use Rattle.matching.proofs.RuleWritten.{written_is}
 
 -- the tests behind the match
-abbrev asked : Bool → Bool → Bool → Reply (Unit {0})
-asked s u c = do
-  _ ← require s Unstable
-  _ ← require u Used
-  require c OpenOperand
-
--- and what is written
 abbrev answered : {A : Type 0} → Bool → Bool → Bool → A → Reply A
 answered s u c a = do
   _ ← require s Unstable
@@ -53,12 +47,12 @@ answered s u c a = do
   _ ← require c OpenOperand
   accepted a
 
-answers_same : (s u c : Bool) (b : Term) (f : Term → Query) (p : Query) → (c ≡ true → f b ≡ p)
-    → answered s u c b >>= (λ x. accepted (f x)) ≡ asked s u c >>= (λ _. accepted p)
-answers_same false u c b f p h = refl
-answers_same true false c b f p h = refl
-answers_same true true false b f p h = refl
-answers_same true true true b f p h = ap accepted (h refl)
+answers_same : {A B : Type 0} (s u c : Bool) (a : A) (b : B) (f : A → Query) (g : B → Query) → (c ≡ true → f a ≡ g b)
+    → answered s u c a >>= (λ x. accepted (f x)) ≡ answered s u c b >>= (λ x. accepted (g x))
+answers_same false u c a b f g h = refl
+answers_same true false c a b f g h = refl
+answers_same true true false a b f g h = refl
+answers_same true true true a b f g h = ap accepted (h refl)
 
 module _ (d : Database) (limit : ℕ) (q : Query) (t : Term) (checked : Checked limit q (schema columns d) t) (counted : length (nodes q) ≡ q.count) (fits : q.count ≤ node_limit) where
   abbrev G : Schema
@@ -103,15 +97,15 @@ module _ (d : Database) (limit : ℕ) (q : Query) (t : Term) (checked : Checked 
     matched_reply : {C : Cols} {s : ℕ} (a : Term) → Here d q t checked.written C s a → s + size a ≡ n → (o : Option Match) → match k a ≡ o
         → (or_refuse o NoMatch >>= (λ m. answered (stable_enough G C m) (unused_enough G C m) (closed_enough m) (written m))) >>= (λ b. accepted (replaced_by q n a b))
         ≡ reply_to q facts (last s a) (found s o)
-    matched_reply a h e none f = refl
-    matched_reply {C} {s} a h e (some m) f =
+    matched_reply a h e None f = refl
+    matched_reply {C} {s} a h e (Some m) f =
         let r : Here d q t checked.written C s (redex m) = subst (Here d q t checked.written C s) (matched k a f) h in
-        let p : Query = written_at q facts (last s a) (found_of s m) in
-        answers_same (stable_enough G C m) (unused_enough G C m) (closed_enough m) (written m) (replaced_by q n a) p
+        let m' : Found = found_of s m in
+        let p : Found → Query = written_at q facts (last s a) in
+        answers_same (stable_enough G C m) (unused_enough G C m) (closed_enough m) (written m) m' (replaced_by q n a) p
         (λ c. ap (λ (i : ℕ). with_nodes q (replaced (nodes q) i a (written m))) (sym e) ∙ written_is d limit q t checked counted fits a k m h f c)
-        ∙ ap₂ (λ (x y : Bool). asked x y (closed_enough m) >>= λ _. accepted p) (sym (stable_is d limit q t checked counted fits m r)) (sym (unused_is d limit q t checked counted fits m r))
-        ∙ ap₂ (λ (b x : Bool). (require b NoMatch >>= λ _. asked (stable_at q facts (found_of s m)) (unused_at q facts (found_of s m)) x) >>= λ _. accepted p)
-        (sym (match_found s m)) (sym (closed_is d limit q t checked counted fits m r))
+        ∙ ap₂ (λ (x y : Bool). answered x y (closed_enough m) m' >>= λ z. accepted (p z)) (sym (stable_is d limit q t checked counted fits m r)) (sym (unused_is d limit q t checked counted fits m r))
+        ∙ ap (λ (x : Bool). answered (stable_at q facts m') (unused_at q facts m') x m' >>= λ z. accepted (p z)) (sym (closed_is d limit q t checked counted fits m r))
 
     -- what the rule replies for the term of a node is what is replied by the index
     pub node_reply_lem : {C : Cols} {s : ℕ} (a : Term) → Here d q t checked.written C s a → s + size a ≡ n

@@ -1,7 +1,7 @@
 -- What a kind writes by the indices is what its rule writes.
 use mathlib.Core.Path.{◌≡◌, refl, ap, ap₂, sym, ◌∙◌, subst}
 use mathlib.Core.Bool.{true}
-use mathlib.Core.Option.{some}
+use Rattle.std.specs.Prelude.{Some}
 use mathlib.Core.Logic.{inl, inr}
 use mathlib.Core.List.{List, [], ◌∷◌, ◌++◌, append_assoc}
 use Prim.Native.Nat.{ℕ, ◌+◌, ◌-◌, ◌≤◌}
@@ -116,7 +116,7 @@ module _ (d : Database) (limit : ℕ) (q : Query) (t : Term) (checked : Checked 
   node_closed : {C : Cols} {s : ℕ} {a : Term} (m : Match) → At C s a → a ≡ redex m → closed_enough m ≡ true → Closed G a
   node_closed m h e c = elim (here_fine d limit q t checked counted fits h) [ inl p ↦ p | inr (v, D, p) ↦ absurd (open_fails m (subst (Path G v D) e p) c) ]
 
-  pub written_is : {C : Cols} {s : ℕ} (a : Term) (k : ℕ) (m : Match) → At C s a → match k a ≡ some m → closed_enough m ≡ true
+  pub written_is : {C : Cols} {s : ℕ} (a : Term) (k : ℕ) (m : Match) → At C s a → match k a ≡ Some m → closed_enough m ≡ true
       → with_nodes q (replaced (nodes q) (s + size a) a (written m)) ≡ written_at q facts (last s a) (found_of s m)
   written_is {C} {s} a k m h found c =
       let e = matched k a found in

@@ -1,5 +1,6 @@
 -- What a kind finds at a node of a checked query, what 13 to 15 ask of it, and what is written, all read off the lines and what the check tells.
 -- That this is what document 01's rules reply is a theorem (`node_reply_lem`).
+use Rattle.std.specs.Prelude.{Option, Some, None, option_and_then}
 use Rattle.std.specs.Prelude.{◌≡◌, Bool, true, false, not, ◌&&◌, ◌||◌, ℕ, ◌+◌, ◌-◌, ◌≤◌, ◌<◌, eqb, leb}
 use Rattle.laws.specs.Lists.{when◌then◌else◌, ◌iff◌, every, all}
 use Rattle.algebra.specs.declared.Pairing.{Pairing}
@@ -8,7 +9,7 @@ use Rattle.algebra.specs.declared.Condition.{Condition}
 use Rattle.algebra.specs.Columns.{Cols, named}
 use Rattle.relation.specs.Rows.{columns, cols_of}
 use Rattle.database.specs.declared.Refusal.TheVariants.{NoMatch, Unstable, Used, OpenOperand}
-use Rattle.database.specs.Refusals.{Reply, refused, accepted, require, ◌>>=◌}
+use Rattle.database.specs.Refusals.{Reply, refused, accepted, require, or_refuse, ◌>>=◌}
 use Rattle.query.specs.declared.Node.{Node}
 use Rattle.query.specs.declared.Node.TheVariants.{Table, Var, Fact, Pair, Filter, Copy, Drop, Last, Fix, Mu}
 use Rattle.query.specs.declared.Query.{Query}
@@ -21,7 +22,7 @@ use Rattle.rewrite.specs.Path.{used_columns}
 use Rattle.origins.specs.Origins.{unstable_columns}
 use Rattle.rewrite.specs.Splices.{with_lines, exchanged, merged}
 use Rattle.matching.specs.declared.Found.{Found}
-use Rattle.matching.specs.declared.Found.TheVariants.{Nothing, FilterFix, FixJoin, JoinFix, FixExcept, DropFix, FixFix}
+use Rattle.matching.specs.declared.Found.TheVariants.{FilterFix, FixJoin, JoinFix, FixExcept, DropFix, FixFix}
 
 -- where the operands of the node of index i end: the last just before it, the first just before the last starts
 abbrev pub right_of : ℕ → ℕ
@@ -32,54 +33,53 @@ left_of facts i = start_at facts (i - 1) - 1
 
 module _ (q : Query) where
   -- what is found over an operand, if that is a fix
-  abbrev pub over_fix : ℕ → Found → Found
-  over_fix x m = when has_step (line_at q x) then m else Nothing
+  abbrev pub over_fix : ℕ → Found → Option Found
+  over_fix x m = when has_step (line_at q x) then Some m else None
 
   -- k: the kind; i: the index of the node
   module _ (k i : ℕ) where
-    abbrev pub filter_found : Condition → Found
-    filter_found f = when eqb k 1 then over_fix (right_of i) (FilterFix f (right_of i)) else Nothing
+    abbrev pub filter_found : Condition → Option Found
+    filter_found f = when eqb k 1 then over_fix (right_of i) (FilterFix f (right_of i)) else None
 
-    abbrev pub drop_found : ℕ → Found
-    drop_found c = when eqb k 5 then over_fix (right_of i) (DropFix c (right_of i)) else Nothing
+    abbrev pub drop_found : ℕ → Option Found
+    drop_found c = when eqb k 5 then over_fix (right_of i) (DropFix c (right_of i)) else None
 
   module _ (facts : Facts) (k i : ℕ) where
-    abbrev pub join_found : Found
+    abbrev pub join_found : Option Found
     join_found =
         when eqb k 2 then over_fix (left_of facts i) (FixJoin (left_of facts i) (right_of i))
         else
         when eqb k 3 then over_fix (right_of i) (JoinFix (left_of facts i) (right_of i))
         else
-        when eqb k 6 then over_fix (left_of facts i) (over_fix (right_of i) (FixFix (left_of facts i) (right_of i)))
-        else Nothing
+        when eqb k 6 then option_and_then (over_fix (right_of i)) (over_fix (left_of facts i) (FixFix (left_of facts i) (right_of i)))
+        else None
 
-    abbrev pub except_found : Found
-    except_found = when eqb k 4 then over_fix (left_of facts i) (FixExcept (left_of facts i) (right_of i)) else Nothing
+    abbrev pub except_found : Option Found
+    except_found = when eqb k 4 then over_fix (left_of facts i) (FixExcept (left_of facts i) (right_of i)) else None
 
-    abbrev pub pair_found : Pairing → Found
-    pair_found Union = Nothing
+    abbrev pub pair_found : Pairing → Option Found
+    pair_found Union = None
     pair_found Join = join_found
     pair_found Except = except_found
 
-    abbrev pub line_found : Node → Found
-    line_found (Table t) = Nothing
-    line_found (Var v) = Nothing
-    line_found (Fact c x) = Nothing
+    abbrev pub line_found : Node → Option Found
+    line_found (Table t) = None
+    line_found (Var v) = None
+    line_found (Fact c x) = None
     line_found (Pair o) = pair_found o
     line_found (Filter f) = filter_found k i f
-    line_found (Copy a b) = Nothing
+    line_found (Copy a b) = None
     line_found (Drop a) = drop_found k i a
-    line_found (Last a) = Nothing
-    line_found (Fix v) = Nothing
-    line_found (Mu v) = Nothing
+    line_found (Last a) = None
+    line_found (Fix v) = None
+    line_found (Mu v) = None
 
     -- what kind k finds at the node of index i
-    abbrev pub found_at : Found
+    abbrev pub found_at : Option Found
     found_at = line_found (line_at q i)
 
 -- what is found ends at lines of the query
 abbrev pub Within : Query → Found → Type 0
-Within q Nothing = Unit {0}
 Within q (FilterFix f x) = x < q.count
 Within q (FixJoin x o) = (x < q.count) × (o < q.count)
 Within q (JoinFix o x) = (x < q.count) × (o < q.count)
@@ -89,7 +89,6 @@ Within q (FixFix x y) = (x < q.count) × (y < q.count)
 
 -- no operand ends behind the node of index i, and the left one of two fixes ends before the right one's step
 abbrev pub Fits : Facts → ℕ → Found → Type 0
-Fits facts i Nothing = Unit {0}
 Fits facts i (FilterFix f x) = x ≤ i
 Fits facts i (FixJoin x o) = (x ≤ i) × (o ≤ i)
 Fits facts i (JoinFix o x) = (x ≤ i) × (o ≤ i)
@@ -136,7 +135,6 @@ module _ (q : Query) (facts : Facts) where
 
   -- 13, 14, 15
   abbrev pub stable_at : Found → Bool
-  stable_at Nothing = true
   stable_at (FilterFix f x) = filter_kept f x
   stable_at (FixJoin x o) = shared_kept x o
   stable_at (JoinFix o x) = shared_kept x o
@@ -145,7 +143,6 @@ module _ (q : Query) (facts : Facts) where
   stable_at (FixFix x y) = shared_kept x y && shared_kept y x
 
   abbrev pub unused_at : Found → Bool
-  unused_at Nothing = true
   unused_at (FilterFix f x) = true
   unused_at (FixJoin x o) = others_fresh x o
   unused_at (JoinFix o x) = others_fresh x o
@@ -164,7 +161,6 @@ module _ (q : Query) (facts : Facts) where
 
   -- what is written at the node of index i
   abbrev pub written_at : ℕ → Found → Query
-  written_at i Nothing = q
   written_at i (FilterFix f x) = moved_at i x
   written_at i (FixJoin x o) = moved_at i x
   written_at i (JoinFix o x) = moved_at i x
@@ -173,7 +169,6 @@ module _ (q : Query) (facts : Facts) where
   written_at i (FixFix x y) = merged_at i x y
 
 abbrev pub closed_at : Facts → Found → Bool
-closed_at facts Nothing = true
 closed_at facts (FilterFix f x) = true
 closed_at facts (FixJoin x o) = none_in (free_at facts o)
 closed_at facts (JoinFix o x) = none_in (free_at facts o)
@@ -181,26 +176,18 @@ closed_at facts (FixExcept x o) = none_in (free_at facts o)
 closed_at facts (DropFix d x) = true
 closed_at facts (FixFix x y) = true
 
-abbrev pub is_found : Found → Bool
-is_found Nothing = false
-is_found (FilterFix f x) = true
-is_found (FixJoin x o) = true
-is_found (JoinFix o x) = true
-is_found (FixExcept x o) = true
-is_found (DropFix d x) = true
-is_found (FixFix x y) = true
-
--- "12 to 15 in order": what the tests reply to what is found
-abbrev pub judged_at : Query → Facts → Found → Reply (Unit {0})
-judged_at q facts m = do
-  _ ← require (is_found m) NoMatch
+-- "12 to 15 in order": what is found, if the tests pass it
+abbrev pub judged_at : Query → Facts → Option Found → Reply Found
+judged_at q facts o = do
+  m ← or_refuse o NoMatch
   _ ← require (stable_at q facts m) Unstable
   _ ← require (unused_at q facts m) Used
-  require (closed_at facts m) OpenOperand
+  _ ← require (closed_at facts m) OpenOperand
+  accepted m
 
 -- and what is written
-abbrev pub reply_to : Query → Facts → ℕ → Found → Reply Query
-reply_to q facts i m = judged_at q facts m >>= λ _. accepted (written_at q facts i m)
+abbrev pub reply_to : Query → Facts → ℕ → Option Found → Reply Query
+reply_to q facts i o = judged_at q facts o >>= λ m. accepted (written_at q facts i m)
 
 -- "Nodes count from 1.": what is replied at node n, by the index; 12 where there is no such node
 abbrev pub at_node : Query → (ℕ → Reply Query) → ℕ → Reply Query

@@ -4,9 +4,8 @@
 use algebra::Condition;
 
 // What a kind finds at its node, by the indices of the operands' last lines: a fix, and the other operand.
-#[derive(Clone, Copy)]
+#[derive(Clone, Copy, Debug, PartialEq, Eq)]
 pub enum Found {
-    Nothing,
     FilterFix(Condition, usize),
     FixJoin(usize, usize),
     JoinFix(usize, usize),

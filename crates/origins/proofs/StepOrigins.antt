@@ -1,7 +1,7 @@
 -- The numbers that the pass over a step's lines holds stand for the origins of its columns, so the columns that it finds are those not stable.
 use mathlib.Core.Path.{◌≡◌, refl, ap, ap₂, sym, ◌∙◌}
 use mathlib.Core.Bool.{Bool, true, false, not}
-use mathlib.Core.Option.{Option, some, none}
+use Rattle.std.specs.Prelude.{Option, Some, None}
 use mathlib.Core.Logic.{inl, inr}
 use mathlib.Core.List.{List, []}
 use Prim.Native.Nat.{ℕ, zero, suc, ◌+◌, ◌-◌, ◌≤◌, ◌<◌}
@@ -36,15 +36,15 @@ use Rattle.rewrite.proofs.OnPath.{stands_told}
 
 -- numbers and what they stand for
 
-own_origin : (b : Bool) (e : ℕ) → e < columns → origin_of (when b then e else columns) ≡ when b then some e else none
+own_origin : (b : Bool) (e : ℕ) → e < columns → origin_of (when b then e else columns) ≡ when b then Some e else None
 own_origin true e h = rw (lt-ltb e columns h)
 own_origin false e h = refl
 
-agreed_self : (i : Bool) (m : ℕ) → (when i then some m else none) ≡ agreed (when i then some m else none) (when i then some m else none)
+agreed_self : (i : Bool) (m : ℕ) → (when i then Some m else None) ≡ agreed (when i then Some m else None) (when i then Some m else None)
 agreed_self true m = rw (eqb_self m)
 agreed_self false m = refl
 
-agreed_other : (i j : Bool) (m n : ℕ) → eqb m n ≡ false → none ≡ agreed (when i then some m else none) (when j then some n else none)
+agreed_other : (i j : Bool) (m n : ℕ) → eqb m n ≡ false → None ≡ agreed (when i then Some m else None) (when j then Some n else None)
 agreed_other true true m n e = rw e
 agreed_other true false m n e = refl
 agreed_other false j m n e = refl
@@ -57,7 +57,7 @@ pair_origin_lem Union m n = elim (same? m n) [
 ]
 pair_origin_lem Join m n = by_number (ltb m columns) refl
   where
-    by_number : (b : Bool) → ltb m columns ≡ b → origin_of (when b then m else n) ≡ or_else (when b then some m else none) (origin_of n)
+    by_number : (b : Bool) → ltb m columns ≡ b → origin_of (when b then m else n) ≡ or_else (when b then Some m else None) (origin_of n)
     by_number true e = rw e
     by_number false e = refl
 pair_origin_lem Except m n = refl
@@ -66,7 +66,7 @@ pair_origin_lem Except m n = refl
 own_number_lem : (n c : ℕ) → c < columns → has_origin (origin_of n) c ≡ eqb n c
 own_number_lem n c h = by_test (ltb n columns) refl
   where
-    by_test : (b : Bool) → ltb n columns ≡ b → has_origin (when b then some n else none) c ≡ eqb n c
+    by_test : (b : Bool) → ltb n columns ≡ b → has_origin (when b then Some n else None) c ≡ eqb n c
     by_test true e = refl
     by_test false e = let k = ltb-false n columns e in sym (ne_eqb n c (λ i. omega arith))
 

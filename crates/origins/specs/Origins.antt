@@ -1,6 +1,6 @@
 -- The origins of a step's columns as its lines and the check's facts show them, node by node.
 use Rattle.std.specs.Prelude.{not, List, [], ℕ, zero, suc, ◌+◌, ◌-◌, eqb, ltb, get_or, set, replicate}
-use Rattle.std.proofs.Math.Option.{Option, some, none}
+use Rattle.std.specs.Prelude.{Option, Some, None}
 use Rattle.laws.specs.Lists.{when◌then◌else◌, tabulate}
 use Rattle.algebra.specs.declared.Pairing.{Pairing}
 use Rattle.algebra.specs.declared.Pairing.TheVariants.{Union, Join, Except}
@@ -21,7 +21,7 @@ number_at held c = when ltb c columns then get_or held.from c 0 else columns
 
 -- the origin that a number stands for
 abbrev pub origin_of : ℕ → Option ℕ
-origin_of n = when ltb n columns then some n else none
+origin_of n = when ltb n columns then Some n else None
 
 -- of a pair's column, from the numbers of its sides
 abbrev pub pair_number : Pairing → ℕ → ℕ → ℕ

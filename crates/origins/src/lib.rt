@@ -81,16 +81,12 @@ fn origin_number(node: Node, own: Columns, last: NodeOrigins, first: NodeOrigins
     ensures { result ≡ origin_number node (cols_of columns own) (number_at last) (number_at first) c }
 {
     match node {
-        Node::Table(_) => COLUMNS,
+        Node::Table(_) | Node::Fact(_, _) | Node::Fix(_) | Node::Mu(_) => COLUMNS,
         Node::Var(_) => own_number(own, c),
-        Node::Fact(_, _) => COLUMNS,
         Node::Pair(pairing) => pair_number(pairing, number_at(first, c), number_at(last, c)),
-        Node::Filter(_) => number_at(last, c),
+        Node::Filter(_) | Node::Last(_) => number_at(last, c),
         Node::Copy(a, b) => copied_number(last, a as usize, b as usize, c),
         Node::Drop(a) => dropped_number(last, a as usize, c),
-        Node::Fix(_) => COLUMNS,
-        Node::Mu(_) => COLUMNS,
-        Node::Last(_) => number_at(last, c),
     }
 }
 
@@ -116,17 +112,11 @@ fn step_origins(query: Query, facts: Facts, start: usize, end: usize) -> [NodeOr
         from: [COLUMNS; COLUMNS],
     };
     let mut held = [none; NODES];
-    let mut i = start;
-    while i < end {
+    for i in start..end {
         let right = preceding(i);
         let left = preceding(facts.start[right]);
         let node = node_at(query, i);
-        let own = facts.columns[i];
-        let last = held[right];
-        let first = held[left];
-        let found = line_origins(node, own, last, first);
-        held[i] = found;
-        i += 1;
+        held[i] = line_origins(node, facts.columns[i], held[right], held[left]);
     }
     held
 }
@@ -150,8 +140,6 @@ pub fn unstable_columns(query: Query, facts: Facts, fix: usize) -> Columns
     ensures { result ≡ unstable_columns query facts fix }
 {
     let last = preceding(fix);
-    let start = facts.start[last];
-    let held = step_origins(query, facts, start, fix);
-    let result = held[last];
-    strayed(result)
+    let held = step_origins(query, facts, facts.start[last], fix);
+    strayed(held[last])
 }

@@ -12,7 +12,8 @@ use lib.Dec.{leb}
 use lib.ListN.{length, drop, set, length-set}
 use lib.Seq.{sets, sets-eq}
 use Rattle.laws.specs.Lists.{when◌then◌else◌}
-use Rattle.output.specs.declared.Written.TheVariants.{Bytes, Short}
+use Rattle.std.specs.Prelude.{Ok, Err}
+use Rattle.database.specs.declared.Refusal.TheVariants.{ShortSlice}
 use Rattle.output.specs.Replies.{write_reply, slice_after}
 use Rattle.output.specs.Output.{Output, output, put_byte, put, Puts}
 use Rattle.output.proofs.Puts.{put_past}
@@ -67,7 +68,7 @@ module _ {text slice after : List ℕ} {size : ℕ} (p : Puts false text 0 slice
   measured_size h = ap (λ (o : Output). o.at) (p.is ∙ put_measured text 0 slice (omega arith)) ∙ omega arith
 
   -- the place is past the end: nothing was written, and the slice is short
-  pub short_reply : length after < size → (Short ≡ write_reply text slice) × (after ≡ slice_after text slice)
+  pub short_reply : length after < size → (Err ShortSlice ≡ write_reply text slice) × (after ≡ slice_after text slice)
   short_reply h = elim (dec_le (length text) (length slice)) [
     | yes k ↦ let e = measured_size k in let l = ap length measured_kept in let z : ⊥ = omega arith in absurd z
     | no k ↦ let e = lt-leb (length text) (length slice) (omega arith) in (rw e, rw e measured_kept)
@@ -75,10 +76,10 @@ module _ {text slice after : List ℕ} {size : ℕ} (p : Puts false text 0 slice
 
   -- the place is within the slice: the text is stored from its start on
   pub whole_reply : {end : ℕ} {last : List ℕ} → size ≤ length after → Puts true text 0 after end last
-      → (Bytes size ≡ write_reply text slice) × (last ≡ slice_after text slice)
+      → (Ok size ≡ write_reply text slice) × (last ≡ slice_after text slice)
   whole_reply h q = elim (dec_le (length text) (length slice)) [
     | yes k ↦ let e = le-leb (length text) (length slice) k in (
-      rw e (ap Bytes (measured_size k)),
+      rw e (ap Ok (measured_size k)),
       rw e (ap (λ (o : Output). o.slice) (q.is ∙ ap (λ l. put true text (output 0 l)) measured_kept ∙ put_stored text 0 slice (omega arith)) ∙ stored k),
     )
     | no k ↦ let g = measured_short (omega arith) in let l = ap length measured_kept in let z : ⊥ = omega arith in absurd z

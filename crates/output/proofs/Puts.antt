@@ -2,7 +2,7 @@
 use mathlib.Core.Path.{◌≡◌, refl, ap, sym, ◌∙◌}
 use mathlib.Core.Bool.{Bool, true, false}
 use mathlib.Core.List.{List, [], ◌∷◌, ◌++◌}
-use Prim.Native.Nat.{ℕ, ◌+◌, ◌<◌}
+use Prim.Native.Nat.{ℕ, ◌+◌, ◌≤◌, ◌<◌}
 use native.Mathlib.Omega.{arith}
 use borrow.Author.Tests.{le-leb, lt-leb}
 use lib.Dec.{leb}
@@ -45,18 +45,14 @@ module _ {store : Bool} {at : ℕ} {slice : List ℕ} where
   unfolding put
   puts_stored b h e = record { is = rw (le-leb at (length slice) (omega arith), e) }
 
-  pub puts_measured : (b : ℕ) → at < length slice → store ≡ false → Puts store (b ∷ []) at slice (at + 1) slice
+  -- only measured, or at the end, where there is no room for a byte
+  pub puts_measured : (b : ℕ) → at ≤ length slice → store ≡ false → Puts store (b ∷ []) at slice (at + 1) slice
   unfolding put
-  puts_measured b h e = record { is = rw (le-leb at (length slice) (omega arith), e) }
+  puts_measured b h e = record { is = rw (le-leb at (length slice) h, e) }
 
-  -- at the end there is no room for a byte
-  pub puts_end : (b : ℕ) → at ≡ length slice → Puts store (b ∷ []) at slice (at + 1) slice
+  pub puts_end : (b : ℕ) → at ≡ length slice → store ≡ true → Puts store (b ∷ []) at slice (at + 1) slice
   unfolding put
-  puts_end b e = record { is = by_store store }
-    where
-      by_store : (s : Bool) → output (at + 1) slice ≡ put_byte s b (output at slice)
-      by_store true = rw (le-leb at (length slice) (omega arith), set_out slice at b (omega arith))
-      by_store false = rw (le-leb at (length slice) (omega arith))
+  puts_end b e t = record { is = rw (le-leb at (length slice) (omega arith), t, set_out slice at b (omega arith)) }
 
   pub puts_past : (text : List ℕ) → length slice < at → Puts store text at slice at slice
   puts_past text h = record { is = sym (put_past store text (output at slice) h) }

@@ -7,35 +7,24 @@ ghost use Rattle.text.specs.Numbers.{digits, comma_digits};
 ghost use Rattle.text.specs.Texts.{line_text};
 ghost use Rattle.output.specs.Output.{Puts};
 
-// What writing a text into a lent slice replies: how many bytes it took, or that the slice is short.
-#[derive(Clone, Copy)]
-pub enum Written {
-    Bytes(usize),
-    Short,
-}
-
 pub fn put_byte(b: u8, at: usize, store: bool, out: &mut [u8]) -> usize
     ensures { Puts store (b ∷ []) at out.old result out.new }
 {
-    if at < out.len() {
-        if store {
-            out[at] = b;
-            return at + 1;
-        }
-        return at + 1;
+    if out.len() < at {
+        return at;
     }
-    if at == out.len() {
-        return at + 1;
+    if store && at < out.len() {
+        out[at] = b;
     }
-    at
+    at + 1
 }
 
 pub fn put_bytes(text: &[u8], at: usize, store: bool, out: &mut [u8]) -> usize
     ensures { Puts store text.now at out.old result out.new }
 {
     let mut next = at;
-    for i in 0..text.len() {
-        next = put_byte(text[i], next, store, out);
+    for &b in text {
+        next = put_byte(b, next, store, out);
     }
     next
 }

@@ -1,4 +1,3 @@
-pub mod Judging
 pub mod PassFound
 pub mod PassWritten
 pub mod PassExact

@@ -1,7 +1,7 @@
 -- On a checked query the step of kinds 7 to 11 by the indices is document 02's.
 use mathlib.Core.Path.{◌≡◌, refl, ap, ap₂, sym, ◌∙◌, subst}
 use mathlib.Core.Bool.{Bool, true, false, not, ◌||◌}
-use mathlib.Core.Option.{Option, some, none}
+use Rattle.std.specs.Prelude.{Option, Some, None}
 use mathlib.Core.List.{[]}
 use Prim.Native.Nat.{ℕ, ◌+◌, ◌-◌, ◌≤◌}
 use native.Mathlib.Omega.{arith}
@@ -32,29 +32,23 @@ use Rattle.matching.proofs.Standing.{Here, pair_left, pair_right, filter_down}
 use Rattle.matching.proofs.AtNode.{as_counted, replaced_by}
 use Rattle.matching.proofs.Loops.{here_formed, here_cols}
 use Rattle.matching.proofs.Asked.{every_same, filter_formed}
-use Rattle.passing.specs.Passing.{is_passed, left_end, right_end, room_at, side_at, pass_written, pass_reply_to, pass_reply}
-use Rattle.passing.proofs.Judging.{tests}
+use Rattle.passing.specs.declared.Passed.{Passed}
+use Rattle.passing.specs.Passing.{left_end, right_end, room_at, side_at, pass_written, pass_reply_to, pass_reply}
 use Rattle.passing.proofs.PassFound.{passed_of, passed, passed_at_lem}
 use Rattle.passing.proofs.PassWritten.{right_start_is, pass_written_is}
 
-past_passed : (m : Past) → is_passed (passed_of m) ≡ true
-past_passed (past_union f a b) = refl
-past_passed (past_left f a b) = refl
-past_passed (past_right f a b) = refl
-past_passed (past_except f a b) = refl
-past_passed (past_filter f g a) = refl
-
--- the tests behind the match, and what is written
+-- the tests behind the match; r, s: 2 and 22 are met
 abbrev answered : {A : Type 0} → Bool → Bool → A → Reply A
 answered r s a = do
   _ ← require r (NodeCount 0)
   _ ← require s SideLacks
   accepted a
 
-answers_same : (r s : Bool) (b : Term) (f : Term → Query) (p : Query) → f b ≡ p → answered r s b >>= (λ x. accepted (f x)) ≡ tests true r s >>= (λ _. accepted p)
-answers_same false s b f p h = refl
-answers_same true false b f p h = refl
-answers_same true true b f p h = ap accepted h
+answers_same : {A B : Type 0} (r s : Bool) (a : A) (b : B) (f : A → Query) (g : B → Query) → f a ≡ g b
+    → answered r s a >>= (λ x. accepted (f x)) ≡ answered r s b >>= (λ x. accepted (g x))
+answers_same false s a b f g h = refl
+answers_same true false a b f g h = refl
+answers_same true true a b f g h = ap accepted h
 
 module _ (d : Database) (limit : ℕ) (q : Query) (t : Term) (checked : Checked limit q (schema columns d) t) (counted : length (nodes q) ≡ q.count) (fits : q.count ≤ node_limit) where
   abbrev G : Schema
@@ -99,16 +93,15 @@ module _ (d : Database) (limit : ℕ) (q : Query) (t : Term) (checked : Checked 
     past_reply : {C : Cols} {s : ℕ} (a : Term) → At C s a → s + size a ≡ n → (o : Option Past) → find_past k a ≡ o
         → (or_refuse o NoMatch >>= (λ m. answered (not (adds_node m) || ltb (size t) limit) (side_has G C m) (moved m))) >>= (λ b. accepted (replaced_by q n a b))
         ≡ pass_reply_to limit q facts (last s a) (passed o)
-    past_reply a h e none f = refl
-    past_reply {C} {s} a h e (some m) f =
+    past_reply a h e None f = refl
+    past_reply {C} {s} a h e (Some m) f =
         let i = past_found k a f in
-        let p : Query = pass_written q facts (last s a) (passed_of m) in
+        let p : Passed → Query = pass_written q facts (last s a) in
         let side : side_has G C m ≡ side_at q facts (last s a) (passed_of m) =
         side_is m (subst (At C s) i h) ∙ ap (λ (b : Term). side_at q facts (last s b) (passed_of m)) (sym i) in
         ap₂ (λ (x y : Bool). answered x y (moved m) >>= λ b. accepted (replaced_by q n a b)) (room_is m) side
-        ∙ answers_same (room_at limit q (passed_of m)) (side_at q facts (last s a) (passed_of m)) (moved m) (replaced_by q n a) p
+        ∙ answers_same (room_at limit q (passed_of m)) (side_at q facts (last s a) (passed_of m)) (moved m) (passed_of m) (replaced_by q n a) p
         (ap (λ (j : ℕ). with_nodes q (replaced (nodes q) j a (moved m))) (sym e) ∙ pass_written_is d limit q t checked counted fits a k m h f)
-        ∙ ap (λ (b : Bool). tests b (room_at limit q (passed_of m)) (side_at q facts (last s a) (passed_of m)) >>= λ _. accepted p) (sym (past_passed m))
 
     -- what the rule replies for the term of a node is what is replied by the index
     pub pass_exact : {C : Cols} {s : ℕ} (a : Term) → At C s a → s + size a ≡ n

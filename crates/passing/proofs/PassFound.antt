@@ -1,6 +1,6 @@
 -- What a kind from 7 to 11 finds at a node by its line is what its rule finds in the node's term.
 use mathlib.Core.Path.{◌≡◌, refl, ap, ◌∙◌}
-use mathlib.Core.Option.{Option, some, none}
+use Rattle.std.specs.Prelude.{Option, Some, None}
 use Prim.Native.Nat.{ℕ, ◌≤◌}
 use native.Mathlib.Omega.{arith}
 use lib.Dec.{eqb}
@@ -23,7 +23,7 @@ use Rattle.matching.specs.Found.{right_of}
 use Rattle.matching.proofs.Standing.{Here, filter_down}
 use Rattle.matching.proofs.Loops.{here_told}
 use Rattle.passing.specs.declared.Passed.{Passed}
-use Rattle.passing.specs.declared.Passed.TheVariants.{Nothing, PastUnion, PastLeft, PastRight, PastExcept, PastFilter}
+use Rattle.passing.specs.declared.Passed.TheVariants.{PastUnion, PastLeft, PastRight, PastExcept, PastFilter}
 use Rattle.passing.specs.Passing.{under_passed, line_passed, passed_at}
 
 abbrev pub passed_of : Past → Passed
@@ -33,19 +33,19 @@ passed_of (past_right f a b) = PastRight f
 passed_of (past_except f a b) = PastExcept
 passed_of (past_filter f g a) = PastFilter
 
-abbrev pub passed : Option Past → Passed
-passed none = Nothing
-passed (some m) = passed_of m
+abbrev pub passed : Option Past → Option Passed
+passed None = None
+passed (Some m) = Some (passed_of m)
 
 under_is : (k : ℕ) (f : Condition) (a : Term) → under_passed k f (root a) ≡ passed (under_filter k f a)
 unfolding under_filter past_pair
 under_is k f (table x) = refl
 under_is k f (var x) = refl
 under_is k f (fact c x) = refl
-under_is k f (pair Union a b) = if_map passed (eqb k 7) (some (past_union f a b)) none refl refl
-under_is k f (pair Join a b) = if_map passed (eqb k 8) (some (past_left f a b)) _ refl (if_map passed (eqb k 9) (some (past_right f a b)) none refl refl)
-under_is k f (pair Except a b) = if_map passed (eqb k 10) (some (past_except f a b)) none refl refl
-under_is k f (filter g a) = if_map passed (eqb k 11) (some (past_filter f g a)) none refl refl
+under_is k f (pair Union a b) = if_map passed (eqb k 7) (Some (past_union f a b)) None refl refl
+under_is k f (pair Join a b) = if_map passed (eqb k 8) (Some (past_left f a b)) _ refl (if_map passed (eqb k 9) (Some (past_right f a b)) None refl refl)
+under_is k f (pair Except a b) = if_map passed (eqb k 10) (Some (past_except f a b)) None refl refl
+under_is k f (filter g a) = if_map passed (eqb k 11) (Some (past_filter f g a)) None refl refl
 under_is k f (copy c x a) = refl
 under_is k f (drop c a) = refl
 under_is k f (latest c a) = refl

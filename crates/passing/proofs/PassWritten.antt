@@ -1,6 +1,6 @@
 -- What a kind from 7 to 11 writes by the indices is what its rule writes.
 use mathlib.Core.Path.{◌≡◌, refl, ap, sym, ◌∙◌, subst}
-use mathlib.Core.Option.{some}
+use Rattle.std.specs.Prelude.{Some}
 use mathlib.Core.List.{List, [], ◌∷◌, ◌++◌, append_assoc}
 use Prim.Native.Nat.{ℕ, ◌+◌, ◌-◌, ◌≤◌}
 use native.Mathlib.Omega.{arith}
@@ -121,7 +121,7 @@ module _ (d : Database) (limit : ℕ) (q : Query) (t : Term) (checked : Checked 
       let n = front f s a e in
       ap (with_nodes q) new ∙ lowered_is q counted p r (Filter c') (Filter c) (last s (filter c (filter c' a))) (g ∙ simp append_assoc) (omega arith)
 
-  pub pass_written_is : {C : Cols} {s : ℕ} (a : Term) (k : ℕ) (m : Past) → At C s a → find_past k a ≡ some m
+  pub pass_written_is : {C : Cols} {s : ℕ} (a : Term) (k : ℕ) (m : Past) → At C s a → find_past k a ≡ Some m
       → with_nodes q (replaced (nodes q) (s + size a) a (moved m)) ≡ pass_written q facts (last s a) (passed_of m)
   pass_written_is {C} {s} a k m h found =
       let e = past_found k a found in

@@ -1,6 +1,5 @@
 // What a kind finds at a node of a checked query, "kind or node doesn't match a rule" (12), and where the sides of a pair stand.
-ghost use Rattle.std.specs.Prelude.{◌≡◌, ◌<◌, ◌≤◌, eqb};
-ghost use Rattle.laws.specs.Lists.{when◌then◌else◌};
+ghost use Rattle.std.specs.Prelude.{◌≡◌, ◌<◌, ◌≤◌};
 ghost use Rattle.query.specs.Lines.{node_limit};
 ghost use Rattle.passing.specs.Passing.{right_end, right_start, left_end, pair_passed, under_passed, passed_at};
 
@@ -31,64 +30,39 @@ pub fn left_end(facts: Facts, i: usize) -> usize
     preceding(right_start(facts, i))
 }
 
-// What is found, if the kind is its own.
-fn of_kind(kind: u32, own: u32, found: Passed) -> Passed
-    ensures { result ≡ (when eqb kind own then found else Passed.Nothing) }
-{
-    if kind == own { found } else { Passed::Nothing }
-}
-
 // 7: a union; 8 and 9: a join; 10: an except
-fn pair_passed(kind: u32, condition: Condition, pairing: Pairing) -> Passed
+fn pair_passed(kind: u32, condition: Condition, pairing: Pairing) -> Option<Passed>
     ensures { result ≡ pair_passed kind condition pairing }
 {
     match pairing {
-        Pairing::Union => of_kind(kind, 7, Passed::PastUnion(condition)),
-        Pairing::Join => {
-            if kind == 8 {
-                return Passed::PastLeft(condition);
-            }
-            of_kind(kind, 9, Passed::PastRight(condition))
-        }
-        Pairing::Except => of_kind(kind, 10, Passed::PastExcept),
+        Pairing::Union => (kind == 7).then_some(Passed::PastUnion(condition)),
+        Pairing::Join => match kind {
+            8 => Some(Passed::PastLeft(condition)),
+            9 => Some(Passed::PastRight(condition)),
+            _ => None,
+        },
+        Pairing::Except => (kind == 10).then_some(Passed::PastExcept),
     }
 }
 
 // What is found under a filter, by the line that it takes.
-fn under_passed(kind: u32, condition: Condition, node: Node) -> Passed
+fn under_passed(kind: u32, condition: Condition, node: Node) -> Option<Passed>
     ensures { result ≡ under_passed kind condition node }
 {
     match node {
-        Node::Table(_) => Passed::Nothing,
-        Node::Var(_) => Passed::Nothing,
-        Node::Fact(_, _) => Passed::Nothing,
         Node::Pair(pairing) => pair_passed(kind, condition, pairing),
-        Node::Filter(_) => of_kind(kind, 11, Passed::PastFilter),
-        Node::Copy(_, _) => Passed::Nothing,
-        Node::Drop(_) => Passed::Nothing,
-        Node::Fix(_) => Passed::Nothing,
-        Node::Mu(_) => Passed::Nothing,
-        Node::Last(_) => Passed::Nothing,
+        Node::Filter(_) => (kind == 11).then_some(Passed::PastFilter),
+        _ => None,
     }
 }
 
 // What a kind finds at the node of an index.
-pub fn passed_at(query: Query, kind: u32, i: usize) -> Passed
+pub fn passed_at(query: Query, kind: u32, i: usize) -> Option<Passed>
     requires { (i < query.count) × (query.count ≤ node_limit) }
     ensures { result ≡ passed_at query kind i }
 {
-    let node = node_at(query, i);
-    let under = node_at(query, preceding(i));
-    match node {
-        Node::Table(_) => Passed::Nothing,
-        Node::Var(_) => Passed::Nothing,
-        Node::Fact(_, _) => Passed::Nothing,
-        Node::Pair(_) => Passed::Nothing,
-        Node::Filter(condition) => under_passed(kind, condition, under),
-        Node::Copy(_, _) => Passed::Nothing,
-        Node::Drop(_) => Passed::Nothing,
-        Node::Fix(_) => Passed::Nothing,
-        Node::Mu(_) => Passed::Nothing,
-        Node::Last(_) => Passed::Nothing,
+    match node_at(query, i) {
+        Node::Filter(condition) => under_passed(kind, condition, node_at(query, preceding(i))),
+        _ => None,
     }
 }

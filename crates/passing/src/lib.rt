@@ -10,9 +10,8 @@ mod write; // write.rt: the rule's sheet, and the step
 pub use write::pass;
 
 // What a kind finds at a filter's node: the line that the filter goes past, and the filter where it is looked at or written again.
-#[derive(Clone, Copy)]
+#[derive(Clone, Copy, Debug, PartialEq, Eq)]
 pub enum Passed {
-    Nothing,
     PastUnion(Condition),
     PastLeft(Condition),
     PastRight(Condition),

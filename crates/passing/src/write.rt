@@ -9,11 +9,10 @@ use super::Passed;
 use super::find::{passed_at, right_start};
 use super::judge::judged;
 use algebra::Condition;
-use database::Verdict;
 use query::nodes::preceding;
 use query::{Facts, Node, Query};
+use rewrite::Unchanged;
 use rewrite::splice::{exchange, insert};
-use rewrite::{Rewritten, refuse};
 
 // Kinds 8 and 10: the filter moves before the right side's first line.
 fn to_left(query: Query, facts: Facts, i: usize) -> Query
@@ -36,8 +35,8 @@ fn to_both(query: Query, facts: Facts, i: usize, condition: Condition) -> Query
     requires { (i < query.count) × (query.count < node_limit) × StartsLow facts }
     ensures { result ≡ both_at query facts i condition }
 {
-    let filter = Node::Filter(condition);
-    lowered(insert(query, right_start(facts, i), filter), i + 1)
+    let two = insert(query, right_start(facts, i), Node::Filter(condition));
+    lowered(two, i + 1)
 }
 
 // The sheet that the rule writes at the node of an index, if a node more has room where the kind adds one.
@@ -46,28 +45,26 @@ fn written(query: Query, facts: Facts, i: usize, found: Passed) -> Query
     ensures { result ≡ pass_written query facts i found }
 {
     match found {
-        Passed::Nothing => query,
         Passed::PastUnion(condition) => to_both(query, facts, i, condition),
-        Passed::PastLeft(_) => to_left(query, facts, i),
-        Passed::PastRight(_) => lowered(query, i),
-        Passed::PastExcept => to_left(query, facts, i),
-        Passed::PastFilter => lowered(query, i),
+        Passed::PastLeft(_) | Passed::PastExcept => to_left(query, facts, i),
+        Passed::PastRight(_) | Passed::PastFilter => lowered(query, i),
     }
 }
 
 // The step of a kind from 7 to 11 at the node of an index of a checked query: the rule's query, or the query as given beside the refusal. No node count over
 // `limit` is written.
-pub fn pass(query: Query, facts: Facts, limit: usize, kind: u32, i: usize) -> Rewritten
+pub fn pass(
+    query: Query,
+    facts: Facts,
+    limit: usize,
+    kind: u32,
+    i: usize,
+) -> Result<Query, Unchanged>
     requires { (i < query.count) × (query.count ≤ node_limit) × (limit ≤ node_limit) × StartsLow facts }
     ensures { result ≡ rewritten query (pass_reply limit query facts kind i) }
 {
-    let found = passed_at(query, kind, i);
-    let verdict = judged(query, facts, limit, i, found);
-    match verdict {
-        Verdict::Refused(cause) => refuse(query, cause),
-        Verdict::Accepted => Rewritten {
-            query: written(query, facts, i, found),
-            verdict: Verdict::Accepted,
-        },
+    match judged(query, facts, limit, i, passed_at(query, kind, i)) {
+        Ok(found) => Ok(written(query, facts, i, found)),
+        Err(refusal) => Err(Unchanged { query, refusal }),
     }
 }

@@ -1,7 +1,7 @@
 -- What is kept of the names is their verdict: of those read in the reader's state, and before a second digit of those before the name 1.
 use mathlib.Core.Path.{◌≡◌, refl, ap, sym, ◌∙◌, subst}
 use mathlib.Core.Bool.{Bool, true, false}
-use mathlib.Core.Option.{Option, some, none}
+use Rattle.std.specs.Prelude.{Option, Some, None}
 use mathlib.Core.List.{List, [], ◌∷◌, ◌++◌, append_assoc}
 use Prim.Native.Nat.{ℕ, ◌+◌, ◌-◌, ◌≤◌, ◌<◌}
 use native.Mathlib.Omega.{arith}
@@ -15,7 +15,7 @@ use Rattle.laws.proofs.Fronts.{drop_next}
 use Rattle.laws.proofs.Options.{some_inj, none_some}
 use Rattle.algebra.specs.Columns.{Schema}
 use Rattle.database.specs.declared.Refusal.{Refusal}
-use Rattle.database.specs.declared.Verdict.{Verdict}
+use Rattle.database.specs.Refusals.{Verdict}
 use Rattle.database.specs.Refusals.{accepted, verdict, no_fault}
 use Rattle.query.specs.Passes.{first_of}
 use Rattle.query.proofs.PassLoops.{first_of_faults}
@@ -87,11 +87,11 @@ a_digit b e = rw e
 
 -- behind it no name 1 has just been read
 abbrev NoOne : Option State → Type 0
-NoOne none = Unit {0}
-NoOne (some (due fs f)) = Unit {0}
-NoOne (some (ended name-one fs f p)) = ⊥
-NoOne (some (ended primary fs f p)) = Unit {0}
-NoOne (some (ended complete fs f p)) = Unit {0}
+NoOne None = Unit {0}
+NoOne (Some (due fs f)) = Unit {0}
+NoOne (Some (ended name-one fs f p)) = ⊥
+NoOne (Some (ended primary fs f p)) = Unit {0}
+NoOne (Some (ended complete fs f p)) = Unit {0}
 
 due_no_one : (fs : List Frame) (f : Frame) (x : Sign) → NotDigit x → NoOne (due_step fs f x)
 due_no_one fs f (Digit _) h = elim h [ ]
@@ -154,7 +154,7 @@ module _ (G : Schema) (n : Named) where
   quiet : Named
   quiet = record { before = n.before; all = n.all; digit = false }
 
-  quiet_last : (m : State) → NoOne (some m) → Last G quiet m
+  quiet_last : (m : State) → NoOne (Some m) → Last G quiet m
   unfolding quiet
   quiet_last (due fs f) h = refl
   quiet_last (ended name-one fs f p) h = elim h [ ]
@@ -184,18 +184,18 @@ module _ (G : Schema) (n : Named) where
         last = tt;
       })
 
-  digit_tested : (s : State) (d : ℕ) {m : State} → Tested G n s → step_of s (Digit d) ≡ some m → Tested G (digit_next G n n.digit d) m
+  digit_tested : (s : State) (d : ℕ) {m : State} → Tested G n s → step_of s (Digit d) ≡ Some m → Tested G (digit_next G n n.digit d) m
   digit_tested (due fs f) d h e = subst (Tested G _) (some_inj e) (first_tested fs f d h)
   digit_tested (ended name-one fs f p) d {m} h e = by_test (ltb d 6) e
     where
-      by_test : (t : Bool) → (when t then some (ended primary fs f (name (10 + d))) else none) ≡ some m → Tested G (digit_next G n n.digit d) m
+      by_test : (t : Bool) → (when t then Some (ended primary fs f (name (10 + d))) else None) ≡ Some m → Tested G (digit_next G n n.digit d) m
       by_test true e = subst (Tested G _) (some_inj e) (second_tested fs f p d h)
       by_test false e = none_some e
   digit_tested (ended primary fs f p) d h e = none_some e
   digit_tested (ended complete fs f p) d h e = none_some e
 
   -- one byte more
-  pub next_tested : (s : State) (b : ℕ) {m : State} → Tested G n s → step s b ≡ some m → Tested G (named_next G n b) m
+  pub next_tested : (s : State) (b : ℕ) {m : State} → Tested G n s → step s b ≡ Some m → Tested G (named_next G n b) m
   unfolding quiet
   next_tested s b {m} h e = by_digit_lem (is_digit b) refl
     where
@@ -209,7 +209,7 @@ module _ (G : Schema) (n : Named) where
           }
 
 -- at the end the names are the path's
-pub tested_end : (G : Schema) (n : Named) (s : State) {p : PropertyPath} → Tested G n s → finished s ≡ some p → n.all ≡ names_verdict G (names p)
+pub tested_end : (G : Schema) (n : Named) (s : State) {p : PropertyPath} → Tested G n s → finished s ≡ Some p → n.all ≡ names_verdict G (names p)
 tested_end G n (due fs f) h e = none_some e
 tested_end G n (ended k [] f q) h e = h.all_is ∙ ap (names_verdict G) (all_names k f q ∙ ap names (some_inj e))
 tested_end G n (ended k (g ∷ fs) f q) h e = none_some e
@@ -217,7 +217,7 @@ tested_end G n (ended k (g ∷ fs) f q) h e = none_some e
 -- what is kept behind i bytes of a path's text is a reader's state, from which the rest of the text is read to the path
 abbrev pub Kept : Schema → List ℕ → Named → ℕ → Type 0
 Kept G text n i =
-    (p : PropertyPath) → read_path path_limit text ≡ accepted p → (s : State) × Tested G n s × ((walk s (drop i text) then finished) ≡ some p)
+    (p : PropertyPath) → read_path path_limit text ≡ accepted p → (s : State) × Tested G n s × ((walk s (drop i text) then finished) ≡ Some p)
 
 module _ (G : Schema) (text : List ℕ) (n : Named) (i : ℕ) (k : Kept G text n i) where
   pub kept_more : i < length text → Kept G text (named_next G n (get_or text i 0)) (i + 1)

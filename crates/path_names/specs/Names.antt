@@ -2,7 +2,7 @@
 use Rattle.std.specs.Prelude.{Bool, true, false, List, [], ◌∷◌, ℕ, ◌+◌, ◌-◌}
 use Rattle.laws.specs.Lists.{when◌then◌else◌}
 use Rattle.algebra.specs.Columns.{Schema}
-use Rattle.database.specs.declared.Verdict.{Verdict}
+use Rattle.database.specs.Refusals.{Verdict}
 use Rattle.database.specs.Refusals.{verdict, no_fault}
 use Rattle.query.specs.Passes.{first_of}
 use Rattle.text.specs.Numbers.{is_digit}

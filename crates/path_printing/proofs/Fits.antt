@@ -1,5 +1,5 @@
 -- The text of a path's sheet fits into what the program lends: its lines are short, and there are few of them.
-use mathlib.Core.Path.{◌≡◌}
+use mathlib.Core.Path.{◌≡◌, refl, ap, sym, ◌∙◌}
 use mathlib.Core.List.{List, [], ◌∷◌, ◌++◌, flat_map}
 use Prim.Native.Nat.{ℕ, ◌*◌, ◌^◌, ◌≤◌, ◌<◌}
 use native.Mathlib.Nat.{mul-le-mul_right}
@@ -11,15 +11,18 @@ use Rattle.algebra.specs.declared.Pairing.{Pairing}
 use Rattle.algebra.specs.declared.Pairing.TheVariants.{Union, Join, Except}
 use Rattle.relation.specs.Rows.{columns}
 use Rattle.database.specs.declared.Refusal.TheVariants.{ShortSlice}
-use Rattle.database.specs.Refusals.{Reply, accepted, require, ◌>>=◌}
+use Rattle.std.specs.Prelude.{Ok}
+use Rattle.database.specs.Refusals.{Reply, refused, accepted, require, ◌>>=◌}
 use Rattle.database.proofs.Replies.{accepted_then}
 use Rattle.query.specs.declared.Node.{Node}
 use Rattle.query.specs.declared.Node.TheVariants.{Pair, Copy}
-use Rattle.query.specs.Lines.{node_limit}
+use Rattle.query.specs.declared.Query.{Query}
+use Rattle.query.specs.Lines.{node_limit, nodes}
 use Rattle.text.specs.Numbers.{bytes, digits, comma_digits}
 use Rattle.text.specs.Lines.{node_text}
-use Rattle.text.specs.Texts.{Table, database_value, line_text, query_text}
-use Rattle.text.specs.Replies.{load_tables, store_after}
+use Rattle.text.specs.Texts.{Table, database_value, query_value, line_text, query_text}
+use Rattle.text.specs.Replies.{load_tables, query_reply, store_after}
+use Rattle.text.proofs.QueryValue.{nodes_value}
 use Rattle.writing.specs.Rooms.{line_room}
 use Rattle.writing.proofs.Rooms.{digits_room, commas_room, each_room, line_room_lem}
 use Rattle.paths.specs.Reader.{path_limit, read_path}
@@ -28,7 +31,8 @@ use Rattle.paths.proofs.OnForm.{OfLines}
 use Rattle.paths.proofs.PathSheet.{path_each}
 use Rattle.answering.specs.Answer.{taken, empty_store}
 use Rattle.answering.specs.Stages.{reply_room}
-use Rattle.path_printing.specs.Printed.{path_over}
+use Rattle.path_printing.specs.Printed.{path_over, sheet_text, path_bytes}
+use Rattle.path_printing.proofs.Over.{ok_not_err, ok_same}
 
 -- the longest is `pair=except`
 abbrev longest : ℕ
@@ -86,7 +90,7 @@ once_loaded path ts = path_nodes columns node_limit path (database_value columns
 abbrev once_short : List ℕ → List ℕ → Reply (List Node)
 once_short path book = load_tables columns book empty_store >>= once_loaded path
 
-pub sheet_fits : (path book : List ℕ) (ns : List Node) → path_over path book ≡ accepted ns → length (query_text ns) ≤ reply_room
+sheet_fits : (path book : List ℕ) (ns : List Node) → path_over path book ≡ accepted ns → length (query_text ns) ≤ reply_room
 unfolding path_over
 sheet_fits path book ns e =
     let room : Reply (Unit {0}) = require (leb (length book) taken.bytes) ShortSlice in
@@ -96,3 +100,16 @@ sheet_fits path book ns e =
     let (short, few) =
     path_each columns node_limit (database_value columns ts) (store_after (accepted ts) empty_store) (lit≤ tt) (lit≤ tt) Short short_lines path ns h in
     text_fits ns short few
+
+-- the lines of a sheet that was read are the path's
+sheet_read : (r : Reply (List Node)) {q : Query} → Ok q ≡ query_reply r → (ns : List Node) × (r ≡ accepted ns) × (q ≡ query_value ns)
+sheet_read (refused r) e = ok_not_err e
+sheet_read (accepted ns) e = (ns, refl, ok_same e)
+
+-- the text of a sheet that was read is what is printed, and fits
+pub sheet_told : (path book : List ℕ) {q : Query} → Ok q ≡ query_reply (path_over path book)
+    → (query_text (nodes q) ≡ path_bytes path book) × (length (path_bytes path book) ≤ reply_room)
+sheet_told path book e =
+    let (ns, is, same) = sheet_read (path_over path book) e in
+    let lines = ap (λ q. query_text (nodes q)) same ∙ ap query_text (nodes_value ns) in
+    (lines ∙ ap sheet_text (sym is), rw is (sheet_fits path book ns is))

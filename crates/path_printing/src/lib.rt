@@ -7,50 +7,39 @@ ghost use Rattle.output.specs.Replies.{write_reply, slice_after};
 ghost use Rattle.answering.specs.Stages.{reply_room};
 ghost use Rattle.path_printing.specs.Printed.{path_over, path_bytes};
 
-use answering::{BYTES_TAKEN, STORED_TAKEN, cause};
-use database::{Refusal, Verdict};
+use answering::{BYTES_TAKEN, STORED_TAKEN};
+use database::Refusal;
 use loading::read_database;
-use output::Written;
 use path_queries::read_path;
 use path_reading::check_path;
-use query::NODES;
+use query::{NODES, Query};
 use query_writing::write_query;
-use reading::refused_query;
 use relation::COLUMNS;
-use text::ReadQuery;
 use writing::write_refusal;
 
 const STORE: usize = COLUMNS * STORED_TAKEN;
 
 // The sheet of a path over a book's text.
-fn read_over(path: &[u8], book: &[u8]) -> ReadQuery
+fn read_over(path: &[u8], book: &[u8]) -> Result<Query, Refusal>
     ensures { result ≡ query_reply (path_over path.now book.now) }
 {
-    if let Verdict::Refused(off_grammar) = check_path(path) {
-        return refused_query(off_grammar);
-    }
+    check_path(path)?;
     if BYTES_TAKEN < book.len() {
-        return refused_query(Refusal::ShortSlice);
+        return Err(Refusal::ShortSlice);
     }
     let mut store = [0u32; STORE];
-    let read = read_database(book, &mut store[..]);
-    let verdict = read.verdict;
-    if let Verdict::Refused(bad_book) = verdict {
-        return refused_query(bad_book);
-    }
-    read_path(path, read.database, &store[..], NODES)
+    let database = read_database(book, &mut store[..])?;
+    read_path(path, database, &store[..], NODES)
 }
 
 // What `path` prints, written into a lent slice; it always fits into the bytes that the program lends.
-pub fn print_path(path: &[u8], book: &[u8], out: &mut [u8]) -> Written
+pub fn print_path(path: &[u8], book: &[u8], out: &mut [u8]) -> Result<usize, Refusal>
     ensures { (result ≡ write_reply (path_bytes path.now book.now) out.old)
         × (out.new ≡ slice_after (path_bytes path.now book.now) out.old)
         × (length (path_bytes path.now book.now) ≤ reply_room) }
 {
-    let read = read_over(path, book);
-    let verdict = read.verdict;
-    let Verdict::Accepted = verdict else {
-        return write_refusal(cause(verdict), out);
-    };
-    write_query(read.query, out)
+    match read_over(path, book) {
+        Ok(query) => write_query(query, out),
+        Err(refusal) => write_refusal(refusal, out),
+    }
 }

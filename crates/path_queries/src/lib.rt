@@ -7,25 +7,23 @@ ghost use Rattle.query.specs.Lines.{node_limit};
 ghost use Rattle.text.specs.Replies.{query_reply};
 ghost use Rattle.paths.specs.Sheets.{path_nodes};
 
-use database::{Database, Verdict, check_database};
+use database::{Database, Refusal, check_database};
 use path_names::check_names;
 use path_reading::check_path;
 use path_sheets::write_path;
-use reading::refused_query;
-use text::ReadQuery;
+use query::Query;
 
 // The sheet of a path's text, with room for at most NODES nodes, or the refusal.
-pub fn read_path(path: &[u8], database: Database, store: &[u32], limit: usize) -> ReadQuery
+pub fn read_path(
+    path: &[u8],
+    database: Database,
+    store: &[u32],
+    limit: usize,
+) -> Result<Query, Refusal>
     ensures { result ≡ query_reply (path_nodes columns (min limit node_limit) path.now database store.now) }
 {
-    if let Verdict::Refused(off_grammar) = check_path(path) {
-        return refused_query(off_grammar);
-    }
-    if let Verdict::Refused(off_form) = check_database(database, store) {
-        return refused_query(off_form);
-    }
-    if let Verdict::Refused(bad_name) = check_names(path, database) {
-        return refused_query(bad_name);
-    }
+    check_path(path)?;
+    check_database(database, store)?;
+    check_names(path, database)?;
     write_path(path, limit)
 }

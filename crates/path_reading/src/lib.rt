@@ -4,147 +4,101 @@
 ghost use Rattle.std.specs.Prelude.{◌≡◌, ◌&&◌, ◌≤◌, eqb};
 ghost use Rattle.database.specs.Refusals.{verdict};
 ghost use Rattle.paths.specs.Reader.{sign, path_limit, read_path};
-ghost use Rattle.path_reading.specs.Modes.{is_repeat, is_second, due_next, after_next, primary_next, one_next, mode_next, depth_next, is_stopped, is_ended};
+ghost use Rattle.path_reading.specs.Modes.{due_next, after_next, primary_next, one_next, mode_next, depth_next, is_ended};
 
 use byte_classes::{ByteClass, class_of};
-use database::{Refusal, Verdict};
+use database::Refusal;
 use paths::Sign;
-use query::preceding;
 
 // "1 to 128 bytes"
 pub const PATH_BYTES: usize = 128;
 
-// What may follow the bytes read: a primary or `^` is due; a primary is due; the name 1, which may go on as 10 to 15; a primary has ended; its `+` too; nothing.
-#[derive(Clone, Copy)]
+const BAR: u8 = b'|';
+
+const SLASH: u8 = b'/';
+
+const CARET: u8 = b'^';
+
+const CROSS: u8 = b'+';
+
+const OPENING: u8 = b'(';
+
+const CLOSING: u8 = b')';
+
+// What may follow the bytes read: a primary or `^` is due; a primary is due; the name 1, which may go on as 10 to 15; a primary has ended; its `+` too.
+#[derive(Clone, Copy, Debug, PartialEq, Eq)]
 pub enum Mode {
     Due,
     Turned,
     NameOne,
     Primary,
     Complete,
-    Stopped,
 }
 
+#[tactic(auto, unfolding(paths::specs::Reader::sign), using(byte_classes::proofs::Bytes::no_digit))]
 pub fn sign_of(b: u8) -> Sign
     ensures { result ≡ sign b }
 {
     if let ByteClass::Digit(d) = class_of(b) {
         return Sign::Digit(d);
     }
-    if b == 124 {
-        return Sign::Alternate;
+    match b {
+        BAR => Sign::Alternate,
+        SLASH => Sign::Follow,
+        CARET => Sign::Invert,
+        CROSS => Sign::Repeat,
+        OPENING => Sign::Enter,
+        CLOSING => Sign::Leave,
+        _ => Sign::Other,
     }
-    if b == 47 {
-        return Sign::Follow;
-    }
-    if b == 94 {
-        return Sign::Invert;
-    }
-    if b == 43 {
-        return Sign::Repeat;
-    }
-    if b == 40 {
-        return Sign::Enter;
-    }
-    if b == 41 {
-        return Sign::Leave;
-    }
-    Sign::Other
 }
 
 // A primary is due, behind `^` or not.
-fn due_next(turned: bool, sign: Sign) -> Mode
+fn due_next(turned: bool, sign: Sign) -> Option<Mode>
     ensures { result ≡ due_next turned sign }
 {
     match sign {
-        Sign::Digit(d) => { if d == 1 { Mode::NameOne } else { Mode::Primary } }
-        Sign::Alternate => Mode::Stopped,
-        Sign::Follow => Mode::Stopped,
-        Sign::Invert => { if turned { Mode::Stopped } else { Mode::Turned } }
-        Sign::Repeat => Mode::Stopped,
-        Sign::Enter => Mode::Due,
-        Sign::Leave => Mode::Stopped,
-        Sign::Other => Mode::Stopped,
+        Sign::Digit(1) => Some(Mode::NameOne),
+        Sign::Digit(_) => Some(Mode::Primary),
+        Sign::Invert if !turned => Some(Mode::Turned),
+        Sign::Enter => Some(Mode::Due),
+        _ => None,
     }
 }
 
 // An operand has ended, its `+` too.
-fn after_next(depth: usize, sign: Sign) -> Mode
+fn after_next(depth: usize, sign: Sign) -> Option<Mode>
     ensures { result ≡ after_next depth sign }
 {
     match sign {
-        Sign::Digit(_) => Mode::Stopped,
-        Sign::Alternate => Mode::Due,
-        Sign::Follow => Mode::Due,
-        Sign::Invert => Mode::Stopped,
-        Sign::Repeat => Mode::Stopped,
-        Sign::Enter => Mode::Stopped,
-        Sign::Leave => {
-            if depth == 0 {
-                Mode::Stopped
-            } else {
-                Mode::Primary
-            }
-        }
-        Sign::Other => Mode::Stopped,
+        Sign::Alternate | Sign::Follow => Some(Mode::Due),
+        Sign::Leave if depth != 0 => Some(Mode::Primary),
+        _ => None,
     }
 }
 
 // A primary has ended: `+` may follow.
-fn primary_next(depth: usize, sign: Sign) -> Mode
+fn primary_next(depth: usize, sign: Sign) -> Option<Mode>
     ensures { result ≡ primary_next depth sign }
 {
-    if repeats(sign) {
-        Mode::Complete
-    } else {
-        after_next(depth, sign)
+    match sign {
+        Sign::Repeat => Some(Mode::Complete),
+        _ => after_next(depth, sign),
     }
 }
 
-// The name 1: a second digit may follow.
-fn one_next(depth: usize, sign: Sign) -> Mode
+// The name 1: a second digit may follow, which makes 10 to 15.
+fn one_next(depth: usize, sign: Sign) -> Option<Mode>
     ensures { result ≡ one_next depth sign }
 {
-    if second_digit(sign) {
-        Mode::Primary
-    } else {
-        primary_next(depth, sign)
-    }
-}
-
-fn repeats(sign: Sign) -> bool
-    ensures { result ≡ is_repeat sign }
-{
     match sign {
-        Sign::Digit(_) => false,
-        Sign::Alternate => false,
-        Sign::Follow => false,
-        Sign::Invert => false,
-        Sign::Repeat => true,
-        Sign::Enter => false,
-        Sign::Leave => false,
-        Sign::Other => false,
+        Sign::Digit(d) if d < 6 => Some(Mode::Primary),
+        _ => primary_next(depth, sign),
     }
 }
 
-// A digit that makes 10 to 15 behind 1.
-fn second_digit(sign: Sign) -> bool
-    ensures { result ≡ is_second sign }
-{
-    match sign {
-        Sign::Digit(d) => d < 6,
-        Sign::Alternate => false,
-        Sign::Follow => false,
-        Sign::Invert => false,
-        Sign::Repeat => false,
-        Sign::Enter => false,
-        Sign::Leave => false,
-        Sign::Other => false,
-    }
-}
-
-// One byte more: what may follow it.
-fn next_mode(mode: Mode, depth: usize, sign: Sign) -> Mode
+// One byte more: what may follow it, if it may stand there.
+fn next_mode(mode: Mode, depth: usize, sign: Sign) -> Option<Mode>
     ensures { result ≡ mode_next mode depth sign }
 {
     match mode {
@@ -153,7 +107,6 @@ fn next_mode(mode: Mode, depth: usize, sign: Sign) -> Mode
         Mode::NameOne => one_next(depth, sign),
         Mode::Primary => primary_next(depth, sign),
         Mode::Complete => after_next(depth, sign),
-        Mode::Stopped => Mode::Stopped,
     }
 }
 
@@ -163,40 +116,9 @@ fn next_depth(depth: usize, sign: Sign) -> usize
     ensures { result ≡ depth_next depth sign }
 {
     match sign {
-        Sign::Digit(_) => depth,
-        Sign::Alternate => depth,
-        Sign::Follow => depth,
-        Sign::Invert => depth,
-        Sign::Repeat => depth,
         Sign::Enter => depth + 1,
-        Sign::Leave => preceding(depth),
-        Sign::Other => depth,
-    }
-}
-
-fn stopped(mode: Mode) -> bool
-    ensures { result ≡ is_stopped mode }
-{
-    match mode {
-        Mode::Due => false,
-        Mode::Turned => false,
-        Mode::NameOne => false,
-        Mode::Primary => false,
-        Mode::Complete => false,
-        Mode::Stopped => true,
-    }
-}
-
-fn ended(mode: Mode) -> bool
-    ensures { result ≡ is_ended mode }
-{
-    match mode {
-        Mode::Due => false,
-        Mode::Turned => false,
-        Mode::NameOne => true,
-        Mode::Primary => true,
-        Mode::Complete => true,
-        Mode::Stopped => false,
+        Sign::Leave => depth.saturating_sub(1),
+        _ => depth,
     }
 }
 
@@ -204,31 +126,25 @@ fn ended(mode: Mode) -> bool
 fn finished(mode: Mode, depth: usize) -> bool
     ensures { result ≡ is_ended mode && eqb depth 0 }
 {
-    if ended(mode) { depth == 0 } else { false }
+    matches!(mode, Mode::NameOne | Mode::Primary | Mode::Complete) && depth == 0
 }
 
 // 21, or that the text is a path.
-pub fn check_path(text: &[u8]) -> Verdict
+pub fn check_path(text: &[u8]) -> Result<(), Refusal>
     ensures { result ≡ verdict (read_path path_limit text.now) }
 {
     let mut mode = Mode::Due;
-    let mut depth: usize = 0;
-    let mut i: usize = 0;
-    while i < text.len() {
+    let mut depth = 0;
+    for (i, &b) in text.iter().enumerate() {
         if i == PATH_BYTES {
-            return Verdict::Refused(Refusal::PathForm(i + 1));
+            return Err(Refusal::PathForm(i + 1));
         }
-        let sign = sign_of(text[i]);
-        let next = next_mode(mode, depth, sign);
-        if stopped(next) {
-            return Verdict::Refused(Refusal::PathForm(i + 1));
-        }
+        let sign = sign_of(b);
+        mode = next_mode(mode, depth, sign).ok_or(Refusal::PathForm(i + 1))?;
         depth = next_depth(depth, sign);
-        mode = next;
-        i += 1;
     }
     if finished(mode, depth) {
-        return Verdict::Accepted;
+        return Ok(());
     }
-    Verdict::Refused(Refusal::PathForm(i + 1))
+    Err(Refusal::PathForm(text.len() + 1))
 }

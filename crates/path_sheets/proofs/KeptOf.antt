@@ -1,12 +1,11 @@
 -- What the code keeps of a reader's state: the lines written in it, as far as there is room, its recursions, and what stands before its operand.
 use mathlib.Core.Path.{◌≡◌, refl, ap, ap₂, sym, ◌∙◌}
 use mathlib.Core.Bool.{Bool, true, false}
-use mathlib.Core.Option.{Option, some, none}
+use Rattle.std.specs.Prelude.{Option, Some, None}
 use mathlib.Core.List.{List, [], ◌∷◌, ◌++◌}
 use Prim.Native.Nat.{ℕ, ◌+◌, ◌≤◌}
 use native.Mathlib.Omega.{arith}
 use lib.ListN.{length, take, length-append, length-replicate}
-use lib.Seq.{take_all}
 use Rattle.laws.specs.Options.{present}
 use Rattle.algebra.specs.declared.Pairing.TheVariants.{Union}
 use Rattle.query.specs.declared.Node.{Node}
@@ -17,12 +16,11 @@ use Rattle.paths.specs.Reader.{Frame, frame, Ending, name-one, State, due, ended
 use Rattle.paths.specs.Sheets.{recursions}
 use Rattle.paths.specs.Patterns.{from_middle}
 use Rattle.paths.specs.Written.{outer_recursions, outer_lines, written, turn_end, end_behind, sequence_end, path_end}
-use Rattle.path_sheets.specs.declared.Sheet.{Sheet}
 use Rattle.path_sheets.specs.declared.Before.{Before}
 use Rattle.path_sheets.specs.declared.Writing.{Writing}
 use Rattle.path_sheets.specs.Put.{put_all, lines_if, sequence_last, path_last}
 use Rattle.path_sheets.specs.BySign.{no_before, no_writing, due_with}
-use Rattle.path_sheets.proofs.PutLines.{sheet_of, sheet_fits, put_all_lem}
+use Rattle.path_sheets.proofs.PutLines.{sheet_of, fitting, put_all_lem}
 
 abbrev pub frames_of : State → List Frame
 frames_of (due fs f) = fs
@@ -86,8 +84,8 @@ One (ended k fs f p) = k ≡ name-one → p ≡ name 1
 
 -- the lines that end what stands before an operand
 last_lines : (o : Option PropertyPath) (l : List Node) → lines_if (present o) l ≡ end_behind l o
-last_lines none l = refl
-last_lines (some p) l = refl
+last_lines None l = refl
+last_lines (Some p) l = refl
 
 pub sequence_last_lem : (fs : List Frame) (f : Frame) → sequence_last (before_of fs f) ≡ sequence_end f
 sequence_last_lem fs (frame a s i) = ap (λ (l : List Node). turn_end i ++ l) (last_lines s from_middle)
@@ -95,22 +93,20 @@ sequence_last_lem fs (frame a s i) = ap (λ (l : List Node). turn_end i ++ l) (l
 path_last_lem : (fs : List Frame) (f : Frame) → path_last (before_of fs f) ≡ path_end f
 path_last_lem fs (frame a s i) = ap₂ ◌++◌ (sequence_last_lem fs (frame a s i)) (last_lines a (Pair Union ∷ []))
 
-pub writes_start : (limit : ℕ) → Writes limit no_writing start
+pub writes_start : (limit : ℕ) → Writes limit (no_writing limit) start
 unfolding outer_lines outer_recursions outer_of
 writes_start limit =
     record {
-      outer = no_writing.outer;
-      is = ap (λ (t : Sheet). record { sheet = t; numbers = 0; ended = false; before = no_before; depth = 0; outer = no_writing.outer })
-          (sym (sheet_fits limit [] (omega arith)));
+      outer = (no_writing limit).outer;
+      is = refl;
       fits = omega arith;
       inside = refl;
       room = length-replicate path_limit no_before;
     }
 
--- an operand is due behind lines that fit
-pub due_is : (limit : ℕ) (w : Writing) (t : Sheet) (fs : List Frame) (a s : Option PropertyPath) → t ≡ sheet_of limit (outer_lines (frame a s false ∷ fs))
-    → length (outer_lines (frame a s false ∷ fs)) ≤ limit → w.numbers ≡ outer_recursions (frame a s false ∷ fs)
-    → due_with w t (present a) (present s) ≡ record {
+-- an operand is due behind lines
+pub due_is : (limit : ℕ) (w : Writing) (fs : List Frame) (a s : Option PropertyPath) → w.numbers ≡ outer_recursions (frame a s false ∷ fs)
+    → due_with w (sheet_of limit (outer_lines (frame a s false ∷ fs))) (present a) (present s) ≡ record {
       sheet = sheet_of limit (outer_lines (frame a s false ∷ fs));
       numbers = outer_recursions (frame a s false ∷ fs);
       ended = false;
@@ -118,24 +114,20 @@ pub due_is : (limit : ℕ) (w : Writing) (t : Sheet) (fs : List Frame) (a s : Op
       depth = w.depth;
       outer = w.outer;
     }
-due_is limit w t fs a s e h n =
-    let l = outer_lines (frame a s false ∷ fs) in
-    ap₂ (λ (x : Sheet) m. made x m x.query.count) e n ∙ ap (made (sheet_of limit l) (outer_recursions (frame a s false ∷ fs))) (ap length (take_all limit l h))
-  where
-    made : Sheet → ℕ → ℕ → Writing
-    made x m k =
-        record {
-          sheet = x;
-          numbers = m;
-          ended = false;
-          before = record { alternatives = present a; sequence = present s; inverted = false; first = k; number = m };
-          depth = w.depth;
-          outer = w.outer;
-        }
+due_is limit w fs a s n =
+    ap (λ m. record {
+      sheet = sheet_of limit (outer_lines (frame a s false ∷ fs));
+      numbers = m;
+      ended = false;
+      before = record { alternatives = present a; sequence = present s; inverted = false; first = length (outer_lines (frame a s false ∷ fs)); number = m };
+      depth = w.depth;
+      outer = w.outer;
+    }) n
 
 -- the lines that end a path
 pub path_sheet : (limit : ℕ) → limit ≤ node_limit → (k : Ending) (fs : List Frame) (f : Frame) (p : PropertyPath) (l : List Node)
-    → l ≡ written (ended k fs f p) ++ path_end f → put_all limit (sheet_of limit (written (ended k fs f p))) (path_last (before_of fs f)) ≡ sheet_of limit l
-path_sheet limit low k fs f p l e =
-    put_all_lem limit low (written (ended k fs f p)) (path_last (before_of fs f))
-    ∙ ap (λ (m : List Node). sheet_of limit (written (ended k fs f p) ++ m)) (path_last_lem fs f) ∙ ap (sheet_of limit) (sym e)
+    → length (written (ended k fs f p)) ≤ limit → l ≡ written (ended k fs f p) ++ path_end f
+    → put_all (sheet_of limit (written (ended k fs f p))) (path_last (before_of fs f)) ≡ fitting limit l
+path_sheet limit low k fs f p l h e =
+    put_all_lem limit low (written (ended k fs f p)) (path_last (before_of fs f)) h
+    ∙ ap (λ (m : List Node). fitting limit (written (ended k fs f p) ++ m)) (path_last_lem fs f) ∙ ap (fitting limit) (sym e)

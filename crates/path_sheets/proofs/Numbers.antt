@@ -1,6 +1,6 @@
 -- There are no more recursions than lines, so within the limit each number is low, and raising it is what the code does.
 use mathlib.Core.Path.{◌≡◌, refl, ap, ap₂, sym, ◌∙◌}
-use mathlib.Core.Option.{Option, some, none}
+use Rattle.std.specs.Prelude.{Option, Some, None}
 use mathlib.Core.List.{List, [], ◌∷◌, ◌++◌, map, map-append}
 use Prim.Native.Nat.{ℕ, ◌+◌, ◌≤◌, min}
 use native.Mathlib.Omega.{arith}
@@ -28,8 +28,8 @@ pub few_own : (n : ℕ) (p : PropertyPath) → recursions p ≤ length (lines_fr
 few_own n p = omega (arith, lines_length n p, eight_each p)
 
 few_before : (behind : List Node) (n : ℕ) (a : Option PropertyPath) → recursions_of a ≤ length (lines_before behind n a)
-few_before behind n none = omega arith
-few_before behind n (some p) = omega (arith, length-append (lines_from n p) behind, few_own n p)
+few_before behind n None = omega arith
+few_before behind n (Some p) = omega (arith, length-append (lines_from n p) behind, few_own n p)
 
 few_frame : (n : ℕ) (f : Frame) → frame_recursions f ≤ length (frame_lines n f)
 few_frame n (frame a s i) =

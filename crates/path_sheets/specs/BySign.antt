@@ -1,6 +1,7 @@
 -- What each sign does to what is written.
-use Rattle.std.specs.Prelude.{Bool, true, false, [], ◌++◌, ℕ, ◌+◌, ◌-◌, min, leb, get_or, set, replicate}
+use Rattle.std.specs.Prelude.{Option, Some, Bool, true, false, [], ◌++◌, ℕ, ◌+◌, ◌-◌, min, leb, get_or, set, replicate}
 use Rattle.laws.specs.Lists.{when◌then◌else◌}
+use Rattle.laws.specs.Options.{mapped}
 use Rattle.query.specs.declared.Node.TheVariants.{Table}
 use Rattle.query.specs.Lines.{node_limit}
 use Rattle.text.specs.Texts.{query_value}
@@ -16,10 +17,10 @@ use Rattle.path_sheets.specs.Put.{put_line, put_all, sequence_last, path_last, p
 abbrev pub no_before : Before
 no_before = record { alternatives = false; sequence = false; inverted = false; first = 0; number = 0 }
 
-abbrev pub no_writing : Writing
-no_writing =
+abbrev pub no_writing : ℕ → Writing
+no_writing limit =
     record {
-      sheet = record { query = query_value []; over = false };
+      sheet = record { query = query_value []; limit = limit };
       numbers = 0;
       ended = false;
       before = no_before;
@@ -43,17 +44,18 @@ due_with w s a q =
 abbrev pub ended_with : Writing → Sheet → ℕ → Writing
 ended_with w s n = record { sheet = s; numbers = n; ended = true; before = w.before; depth = w.depth; outer = w.outer }
 
-abbrev pub by_digit : ℕ → Writing → ℕ → Writing
-by_digit limit w d =
+-- behind a sign, if its lines find room
+abbrev pub by_digit : Writing → ℕ → Option Writing
+by_digit w d =
     when w.ended
-    then ended_with w (replaced w.sheet w.before.first (Table (10 + d))) w.numbers
-    else ended_with w (put_line limit w.sheet (Table d)) w.numbers
+    then Some (ended_with w (replaced w.sheet w.before.first (Table (10 + d))) w.numbers)
+    else mapped (λ (s : Sheet). ended_with w s w.numbers) (put_line w.sheet (Table d))
 
-abbrev pub by_bar : ℕ → Writing → Writing
-by_bar limit w = due_with w (put_all limit w.sheet (path_last w.before)) true false
+abbrev pub by_bar : Writing → Option Writing
+by_bar w = mapped (λ (s : Sheet). due_with w s true false) (put_all w.sheet (path_last w.before))
 
-abbrev pub by_slash : ℕ → Writing → Writing
-by_slash limit w = due_with w (put_all limit w.sheet (sequence_last w.before ++ to_middle)) w.before.alternatives true
+abbrev pub by_slash : Writing → Option Writing
+by_slash w = mapped (λ (s : Sheet). due_with w s w.before.alternatives true) (put_all w.sheet (sequence_last w.before ++ to_middle))
 
 abbrev pub by_caret : Writing → Writing
 by_caret w =
@@ -79,9 +81,9 @@ own_numbers w = min w.numbers node_limit - w.before.number
 abbrev pub plus_number : Writing → ℕ
 plus_number w = min w.numbers node_limit + own_numbers w
 
-abbrev pub by_plus : ℕ → Writing → Writing
-by_plus limit w =
-    ended_with w (put_all limit w.sheet (plus_lines w.sheet.query w.before.first (own_numbers w) (plus_number w))) (plus_number w + 1)
+abbrev pub by_plus : Writing → Option Writing
+by_plus w =
+    mapped (λ (s : Sheet). ended_with w s (plus_number w + 1)) (put_all w.sheet (plus_lines w.sheet.query w.before.first (own_numbers w) (plus_number w)))
 
 abbrev pub by_enter : Writing → Writing
 by_enter w =
@@ -95,24 +97,24 @@ by_enter w =
       outer = set w.outer w.depth w.before;
     }
 
-abbrev pub by_leave : ℕ → Writing → Writing
-by_leave limit w =
-    when leb path_limit (w.depth - 1) then w else
-    record {
-      sheet = put_all limit w.sheet (path_last w.before);
+abbrev pub by_leave : Writing → Option Writing
+by_leave w =
+    when leb path_limit (w.depth - 1) then Some w else
+    mapped (λ (s : Sheet). record {
+      sheet = s;
       numbers = w.numbers;
       ended = true;
       before = get_or w.outer (w.depth - 1) no_before;
       depth = w.depth - 1;
       outer = w.outer;
-    }
+    }) (put_all w.sheet (path_last w.before))
 
-abbrev pub by_sign : ℕ → Writing → Sign → Writing
-by_sign limit w (Digit d) = by_digit limit w d
-by_sign limit w Alternate = by_bar limit w
-by_sign limit w Follow = by_slash limit w
-by_sign limit w Invert = by_caret w
-by_sign limit w Repeat = by_plus limit w
-by_sign limit w Enter = by_enter w
-by_sign limit w Leave = by_leave limit w
-by_sign limit w Other = w
+abbrev pub by_sign : Writing → Sign → Option Writing
+by_sign w (Digit d) = by_digit w d
+by_sign w Alternate = by_bar w
+by_sign w Follow = by_slash w
+by_sign w Invert = Some (by_caret w)
+by_sign w Repeat = by_plus w
+by_sign w Enter = Some (by_enter w)
+by_sign w Leave = by_leave w
+by_sign w Other = Some w

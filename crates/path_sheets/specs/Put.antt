@@ -1,6 +1,7 @@
 -- Lines put behind a sheet's, as far as there is room, and which lines end what stands before an operand.
-use Rattle.std.specs.Prelude.{Bool, true, false, List, [], ◌∷◌, ◌++◌, map, ℕ, ◌+◌, ◌-◌, min, leb, take, drop, set}
+use Rattle.std.specs.Prelude.{Option, Some, None, Bool, true, false, List, [], ◌∷◌, ◌++◌, map, ℕ, ◌+◌, ◌-◌, min, leb, take, drop, set}
 use Rattle.laws.specs.Lists.{when◌then◌else◌}
+use Rattle.laws.specs.Options.{◌then◌}
 use Rattle.algebra.specs.declared.Pairing.TheVariants.{Union}
 use Rattle.query.specs.declared.Node.{Node}
 use Rattle.query.specs.declared.Node.TheVariants.{Table, Var, Fact, Pair, Filter, Copy, Drop, Fix, Mu, Last}
@@ -14,13 +15,12 @@ use Rattle.path_sheets.specs.declared.Sheet.{Sheet}
 use Rattle.path_sheets.specs.declared.Before.{Before}
 
 -- one line more, if there is room
-unfoldable pub put_line : ℕ → Sheet → Node → Sheet
-put_line limit s x =
-    when leb limit s.query.count then record { query = s.query; over = true } else record { query = stored s.query x; over = s.over }
+unfoldable pub put_line : Sheet → Node → Option Sheet
+put_line s x = when leb s.limit s.query.count then None else Some (record { query = stored s.query x; limit = s.limit })
 
-unfoldable pub put_all : ℕ → Sheet → List Node → Sheet
-put_all limit s [] = s
-put_all limit s (x ∷ l) = put_all limit (put_line limit s x) l
+unfoldable pub put_all : Sheet → List Node → Option Sheet
+put_all s [] = Some s
+put_all s (x ∷ l) = put_line s x then (λ (t : Sheet). put_all t l)
 
 -- lines that are wanted or not
 abbrev pub lines_if : Bool → List Node → List Node
@@ -59,4 +59,4 @@ plus_lines q first r v =
 -- a sheet with another line at an index
 abbrev pub replaced : Sheet → ℕ → Node → Sheet
 replaced s at x =
-    when leb node_limit at then s else record { query = record { count = s.query.count; lines = set s.query.lines at (line x) }; over = s.over }
+    when leb node_limit at then s else record { query = record { count = s.query.count; lines = set s.query.lines at (line x) }; limit = s.limit }

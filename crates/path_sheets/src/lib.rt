@@ -9,22 +9,19 @@ ghost use Rattle.paths.specs.Grammar.{PropertyPath};
 ghost use Rattle.paths.specs.Reader.{path_limit, read_path};
 ghost use Rattle.paths.specs.Sheets.{lines_within};
 
-use database::{Refusal, Verdict};
+use database::Refusal;
 use path_reading::{PATH_BYTES, sign_of};
-use put_lines::{path_end, smaller};
 use query::{NODES, Query};
-use reading::refused_query;
-use signs::{next_writing, no_writing};
-use text::ReadQuery;
+use signs::no_writing;
 
 mod put_lines; // put_lines.rt: lines put behind a sheet's
 mod signs; // signs.rt: what each sign does
 
-// The lines written so far; over: a line found no room.
+// The lines written so far, and how many there may be.
 #[derive(Clone, Copy)]
 pub struct Sheet {
     pub query: Query,
-    pub over: bool,
+    pub limit: usize,
 }
 
 // What stands before an operand since the start or a parenthesis: alternatives, a sequence, a `^`; the line at which the operand begins, and
@@ -51,33 +48,19 @@ pub struct Writing {
 }
 
 // The sheet of a path's text, or 2 where it has more nodes than the limit. Of a text that is no path nothing is said.
-pub fn write_path(path: &[u8], limit: usize) -> ReadQuery
+pub fn write_path(path: &[u8], limit: usize) -> Result<Query, Refusal>
     ensures { (p : PropertyPath) → read_path path_limit path.now ≡ accepted p → result ≡ query_reply (lines_within (min limit node_limit) p) }
 {
-    let room = smaller(limit, NODES);
-    let mut writing = no_writing();
-    let mut i: usize = 0;
-    while i < path.len() {
+    let mut writing = no_writing(limit.min(NODES));
+    for (i, &b) in path.iter().enumerate() {
         if i == PATH_BYTES {
-            return refused_query(Refusal::NodeCount(0));
+            return Err(Refusal::NodeCount(0));
         }
-        let next = next_writing(writing, room, sign_of(path[i]));
-        let sheet = next.sheet;
-        if sheet.over {
-            return refused_query(Refusal::NodeCount(0));
-        }
-        writing = next;
-        i += 1;
+        writing = writing.next(sign_of(b)).ok_or(Refusal::NodeCount(0))?;
     }
-    let written = writing.sheet;
-    let before = writing.before;
-    let whole = path_end(written, room, before);
-    if whole.over {
-        return refused_query(Refusal::NodeCount(0));
-    }
-    let query = whole.query;
-    ReadQuery {
-        query,
-        verdict: Verdict::Accepted,
-    }
+    let whole = writing
+        .sheet
+        .path_end(writing.before)
+        .ok_or(Refusal::NodeCount(0))?;
+    Ok(whole.query)
 }

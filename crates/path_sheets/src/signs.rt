@@ -2,13 +2,10 @@
 ghost use Rattle.std.specs.Prelude.{◌≡◌};
 ghost use Rattle.path_sheets.specs.BySign.{no_before, no_writing, due_with, ended_with, by_digit, by_bar, by_slash, by_caret, by_plus, by_enter, by_leave, by_sign};
 
-use super::put_lines::{
-    difference, path_end, plus_end, put, replace, sequence_end, smaller, to_middle,
-};
 use super::{Before, Sheet, Writing};
 use path_reading::PATH_BYTES;
 use paths::Sign;
-use query::{NODES, Node, preceding};
+use query::{NODES, Node};
 use reading::no_nodes;
 
 // Nothing stands before the first operand.
@@ -24,13 +21,15 @@ fn no_before() -> Before
     }
 }
 
-pub fn no_writing() -> Writing
-    ensures { result ≡ no_writing }
+pub fn no_writing(limit: usize) -> Writing
+    ensures { result ≡ no_writing limit }
 {
     let before = no_before();
-    let query = no_nodes();
     Writing {
-        sheet: Sheet { query, over: false },
+        sheet: Sheet {
+            query: no_nodes(),
+            limit,
+        },
         numbers: 0,
         ended: false,
         before,
@@ -39,161 +38,135 @@ pub fn no_writing() -> Writing
     }
 }
 
-// An operand is due behind these lines.
-fn due(writing: Writing, sheet: Sheet, alternatives: bool, sequence: bool) -> Writing
-    ensures { result ≡ due_with writing sheet alternatives sequence }
-{
-    let query = sheet.query;
-    let first = query.count;
-    let number = writing.numbers;
-    let outer = writing.outer;
-    Writing {
-        sheet,
-        numbers: number,
-        ended: false,
-        before: Before {
-            alternatives,
-            sequence,
-            inverted: false,
-            first,
-            number,
-        },
-        depth: writing.depth,
-        outer,
+impl Writing {
+    // An operand is due behind these lines.
+    fn due(self, sheet: Sheet, alternatives: bool, sequence: bool) -> Writing
+        ensures { result ≡ due_with self sheet alternatives sequence }
+    {
+        Writing {
+            sheet,
+            ended: false,
+            before: Before {
+                alternatives,
+                sequence,
+                inverted: false,
+                first: sheet.query.count,
+                number: self.numbers,
+            },
+            ..self
+        }
     }
-}
 
-// An operand has ended with these lines and recursions.
-fn end(writing: Writing, sheet: Sheet, numbers: usize) -> Writing
-    ensures { result ≡ ended_with writing sheet numbers }
-{
-    let before = writing.before;
-    let outer = writing.outer;
-    Writing {
-        sheet,
-        numbers,
-        ended: true,
-        before,
-        depth: writing.depth,
-        outer,
+    // An operand has ended with these lines and recursions.
+    fn end(self, sheet: Sheet, numbers: usize) -> Writing
+        ensures { result ≡ ended_with self sheet numbers }
+    {
+        Writing {
+            sheet,
+            numbers,
+            ended: true,
+            ..self
+        }
     }
-}
 
-// A name, or the second digit of one, whose line takes the place of the first one's.
-fn digit(writing: Writing, limit: usize, d: u8) -> Writing
-    ensures { result ≡ by_digit limit writing d }
-{
-    let t = d as u32;
-    let sheet = writing.sheet;
-    if writing.ended {
-        let before = writing.before;
-        let another = replace(sheet, before.first, Node::Table(10 + t));
-        return end(writing, another, writing.numbers);
+    // A name, or the second digit of one, whose line takes the place of the first one's.
+    fn digit(self, d: u8) -> Option<Writing>
+        ensures { result ≡ by_digit self d }
+    {
+        let t = u32::from(d);
+        let sheet = if self.ended {
+            self.sheet.replace(self.before.first, Node::Table(10 + t))
+        } else {
+            self.sheet.put(Node::Table(t))?
+        };
+        Some(self.end(sheet, self.numbers))
     }
-    let more = put(sheet, limit, Node::Table(t));
-    end(writing, more, writing.numbers)
-}
 
-// `|`
-fn bar(writing: Writing, limit: usize) -> Writing
-    ensures { result ≡ by_bar limit writing }
-{
-    let sheet = writing.sheet;
-    let before = writing.before;
-    due(writing, path_end(sheet, limit, before), true, false)
-}
-
-// `/`
-fn slash(writing: Writing, limit: usize) -> Writing
-    ensures { result ≡ by_slash limit writing }
-{
-    let sheet = writing.sheet;
-    let before = writing.before;
-    let left = to_middle(sequence_end(sheet, limit, before), limit);
-    due(writing, left, before.alternatives, true)
-}
-
-// `^`
-fn caret(writing: Writing) -> Writing
-    ensures { result ≡ by_caret writing }
-{
-    let sheet = writing.sheet;
-    let before = writing.before;
-    let outer = writing.outer;
-    Writing {
-        sheet,
-        numbers: writing.numbers,
-        ended: false,
-        before: Before {
-            alternatives: before.alternatives,
-            sequence: before.sequence,
-            inverted: true,
-            first: before.first,
-            number: before.number,
-        },
-        depth: writing.depth,
-        outer,
+    // `|`
+    fn bar(self) -> Option<Writing>
+        ensures { result ≡ by_bar self }
+    {
+        let sheet = self.sheet.path_end(self.before)?;
+        Some(self.due(sheet, true, false))
     }
-}
 
-// `+`: the operand's recursions come twice, and the plus's own behind them.
-fn plus(writing: Writing, limit: usize) -> Writing
-    ensures { result ≡ by_plus limit writing }
-{
-    let sheet = writing.sheet;
-    let before = writing.before;
-    let numbers = smaller(writing.numbers, NODES);
-    let by = difference(numbers, before.number);
-    let v = numbers + by;
-    let more = plus_end(sheet, limit, before.first, by, v as u32);
-    end(writing, more, v + 1)
-}
-
-// `(`
-fn enter(writing: Writing) -> Writing
-    ensures { result ≡ by_enter writing }
-{
-    let depth = writing.depth;
-    if PATH_BYTES <= depth {
-        return writing;
+    // `/`
+    #[tactic(auto, using(crate::proofs::PutLines::put_append))]
+    fn slash(self) -> Option<Writing>
+        ensures { result ≡ by_slash self }
+    {
+        let sheet = self.sheet.sequence_end(self.before)?.to_middle()?;
+        Some(self.due(sheet, self.before.alternatives, true))
     }
-    let sheet = writing.sheet;
-    let before = writing.before;
-    let mut inner = due(writing, sheet, false, false);
-    inner.outer[depth] = before;
-    inner.depth = depth + 1;
-    inner
-}
 
-// `)`: the parenthesis is an operand behind what stands before it.
-fn leave(writing: Writing, limit: usize) -> Writing
-    ensures { result ≡ by_leave limit writing }
-{
-    let depth = preceding(writing.depth);
-    if PATH_BYTES <= depth {
-        return writing;
+    // `^`
+    fn caret(self) -> Writing
+        ensures { result ≡ by_caret self }
+    {
+        Writing {
+            ended: false,
+            before: Before {
+                inverted: true,
+                ..self.before
+            },
+            ..self
+        }
     }
-    let sheet = writing.sheet;
-    let before = writing.before;
-    let mut outside = end(writing, path_end(sheet, limit, before), writing.numbers);
-    let outer = writing.outer[depth];
-    outside.before = outer;
-    outside.depth = depth;
-    outside
-}
 
-// One byte more, by its sign.
-pub fn next_writing(writing: Writing, limit: usize, sign: Sign) -> Writing
-    ensures { result ≡ by_sign limit writing sign }
-{
-    match sign {
-        Sign::Digit(d) => digit(writing, limit, d),
-        Sign::Alternate => bar(writing, limit),
-        Sign::Follow => slash(writing, limit),
-        Sign::Invert => caret(writing),
-        Sign::Repeat => plus(writing, limit),
-        Sign::Enter => enter(writing),
-        Sign::Leave => leave(writing, limit),
-        Sign::Other => writing,
+    // `+`: the operand's recursions come twice, and the plus's own behind them.
+    fn plus(self) -> Option<Writing>
+        ensures { result ≡ by_plus self }
+    {
+        let numbers = self.numbers.min(NODES);
+        let by = numbers.saturating_sub(self.before.number);
+        let v = numbers + by;
+        let sheet = self.sheet.plus_end(self.before.first, by, v as u32)?;
+        Some(self.end(sheet, v + 1))
+    }
+
+    // `(`
+    fn enter(self) -> Writing
+        ensures { result ≡ by_enter self }
+    {
+        let depth = self.depth;
+        if PATH_BYTES <= depth {
+            return self;
+        }
+        let mut inner = self.due(self.sheet, false, false);
+        inner.outer[depth] = self.before;
+        inner.depth = depth + 1;
+        inner
+    }
+
+    // `)`: the parenthesis is an operand behind what stands before it.
+    fn leave(self) -> Option<Writing>
+        ensures { result ≡ by_leave self }
+    {
+        let depth = self.depth.saturating_sub(1);
+        if PATH_BYTES <= depth {
+            return Some(self);
+        }
+        let sheet = self.sheet.path_end(self.before)?;
+        Some(Writing {
+            before: self.outer[depth],
+            depth,
+            ..self.end(sheet, self.numbers)
+        })
+    }
+
+    // One byte more, by its sign, if its lines find room.
+    pub fn next(self, sign: Sign) -> Option<Writing>
+        ensures { result ≡ by_sign self sign }
+    {
+        match sign {
+            Sign::Digit(d) => self.digit(d),
+            Sign::Alternate => self.bar(),
+            Sign::Follow => self.slash(),
+            Sign::Invert => Some(self.caret()),
+            Sign::Repeat => self.plus(),
+            Sign::Enter => Some(self.enter()),
+            Sign::Leave => self.leave(),
+            Sign::Other => Some(self),
+        }
     }
 }

@@ -1,6 +1,6 @@
 -- A text is accepted exactly if it is a path of the grammar of at most limit bytes, with its one tree; 21 has exactly the place that `BadPlace` says.
 use mathlib.Core.Path.{◌≡◌}
-use mathlib.Core.Option.{some}
+use Rattle.std.specs.Prelude.{Some}
 use mathlib.Core.List.{List}
 use mathlib.Core.Logic.{◌↔◌}
 use Prim.Native.Nat.{ℕ, ◌≤◌}
@@ -23,7 +23,7 @@ module _ (limit : ℕ) (text : List ℕ) where
       reason (a_path p d _ h) = (d, h)
 
   -- an accepted text, byte by byte
-  pub path_walked : (p : PropertyPath) → read_path limit text ≡ accepted p → (walk start text then finished) ≡ some p
+  pub path_walked : (p : PropertyPath) → read_path limit text ≡ accepted p → (walk start text then finished) ≡ Some p
   path_walked p e = derived_read ((path_read p).0 e).0
 
   pub path_place : (n : ℕ) → (read_path limit text ≡ refused (PathForm n)) ↔ BadPlace limit text n

@@ -2,7 +2,7 @@
 -- with exactly the place of `BadPlace`. No text has two trees.
 use mathlib.Core.Path.{◌≡◌, refl, ap, sym, ◌∙◌, subst, subst₂}
 use mathlib.Core.Bool.{Bool, true, false}
-use mathlib.Core.Option.{Option, some, none}
+use Rattle.std.specs.Prelude.{Option, Some, None}
 use mathlib.Core.Logic.{◌↔◌}
 use mathlib.Core.List.{List, [], ◌∷◌, ◌++◌, append_assoc, append-nil}
 use Prim.Native.Nat.{ℕ, ◌+◌, ◌≤◌, ◌<◌}
@@ -23,7 +23,7 @@ use Rattle.paths.proofs.GrammarRead.{derived_read}
 use Rattle.paths.proofs.ReadGrammar.{read_derived}
 use Rattle.paths.proofs.PathReply.{Stops, no_path_so_far, past_limit, past_end, BadPlace, PathReply, off_path, a_path}
 
-pub derives_iff_read : (text : List ℕ) (p : PropertyPath) → PathText text p ↔ ((walk start text then finished) ≡ some p)
+pub derives_iff_read : (text : List ℕ) (p : PropertyPath) → PathText text p ↔ ((walk start text then finished) ≡ Some p)
 derives_iff_read text p = (derived_read, read_derived text p)
 
 pub unambiguous : {text : List ℕ} {p q : PropertyPath} → PathText text p → PathText text q → p ≡ q
@@ -31,12 +31,12 @@ unambiguous c d = some_inj (sym (derived_read c) ∙ derived_read d)
 
 -- every state can be brought to an end: by a name, if one is due, and by as many `)` as are open
 ended_finishable : (fs : List Frame) (k : Ending) (f : Frame) (p : PropertyPath)
-    → (rest : List ℕ) × (q : PropertyPath) × ((walk (ended k fs f p) rest then finished) ≡ some q)
+    → (rest : List ℕ) × (q : PropertyPath) × ((walk (ended k fs f p) rest then finished) ≡ Some q)
 unfolding walk step sign
 ended_finishable [] k f p = ([], alternatives_to f p, refl)
 ended_finishable (g ∷ fs) k f p = let (rest, q, e) = ended_finishable fs primary g (alternatives_to f p) in (closing ∷ rest, q, e)
 
-finishable : (s : State) → (rest : List ℕ) × (p : PropertyPath) × ((walk s rest then finished) ≡ some p)
+finishable : (s : State) → (rest : List ℕ) × (p : PropertyPath) × ((walk s rest then finished) ≡ Some p)
 unfolding walk step sign
 finishable (due fs f) = let (rest, q, e) = ended_finishable fs primary f (name 0) in (48 ∷ rest, q, e)
 finishable (ended k fs f p) = ended_finishable fs k f p
@@ -46,20 +46,20 @@ read_after : (text rest : List ℕ) {o : Option State} → walk start text ≡ o
 read_after text rest e = ap (λ (x : Option State). x then finished) (walk_append start text rest ∙ ap (λ (x : Option State). x then λ s. walk s rest) e)
 
 -- one byte more
-walked_more : (text : List ℕ) (b : ℕ) {s : State} {o : Option State} → walk start text ≡ some s → step s b ≡ o → walk start (text ++ (b ∷ [])) ≡ o
+walked_more : (text : List ℕ) (b : ℕ) {s : State} {o : Option State} → walk start text ≡ Some s → step s b ≡ o → walk start (text ++ (b ∷ [])) ≡ o
 unfolding walk
 walked_more text b {o = o} w e =
     walk_append start text (b ∷ []) ∙ ap (λ (x : Option State). x then λ n. walk n (b ∷ [])) w ∙ ap (λ (x : Option State). x then λ n. walk n []) e ∙ again o
   where
-    again : (o : Option State) → (o then λ n. some n) ≡ o
-    again none = refl
-    again (some n) = refl
+    again : (o : Option State) → (o then λ n. Some n) ≡ o
+    again None = refl
+    again (Some n) = refl
 
 -- so a text that the reader walks begins a path, and one that it does not walk begins none
-walked_begins : (text : List ℕ) {s : State} → walk start text ≡ some s → Begins text
+walked_begins : (text : List ℕ) {s : State} → walk start text ≡ Some s → Begins text
 walked_begins text {s} e = let (rest, p, f) = finishable s in (rest, (p, read_derived (text ++ rest) p (read_after text rest e ∙ f)))
 
-unwalked_stops : (text : List ℕ) → walk start text ≡ none → ¬ Begins text
+unwalked_stops : (text : List ℕ) → walk start text ≡ None → ¬ Begins text
 unwalked_stops text e (rest, (p, d)) = none_some (sym (read_after text rest e) ∙ derived_read d)
 
 -- a shorter text begins what a longer one does
@@ -89,7 +89,7 @@ module _ (limit : ℕ) where
       first m i j past_end = omega (arith, length-append before rest)
 
   -- the three ways to stop
-  unfinished : (before : List ℕ) {s : State} → walk start before ≡ some s → finished s ≡ none → length before ≤ limit → BadPlace limit before (length before + 1)
+  unfinished : (before : List ℕ) {s : State} → walk start before ≡ Some s → finished s ≡ None → length before ≤ limit → BadPlace limit before (length before + 1)
   unfinished before {s} w f h =
       subst (λ (l : List ℕ). BadPlace limit l (length before + 1)) (append-nil before)
       (place_after before [] (walked_begins before w) h (subst (λ (l : List ℕ). Stops limit l (length before + 1)) (sym (append-nil before)) past_end)
@@ -99,7 +99,7 @@ module _ (limit : ℕ) where
   too_long before b rest i e =
       place_after before (b ∷ rest) i (omega arith) (rw e past_limit) (λ _ k. omega (arith, length-append before (b ∷ rest)))
 
-  bad_byte : (before : List ℕ) (b : ℕ) (rest : List ℕ) {s : State} → walk start before ≡ some s → step s b ≡ none → length before ≤ limit
+  bad_byte : (before : List ℕ) (b : ℕ) (rest : List ℕ) {s : State} → walk start before ≡ Some s → step s b ≡ None → length before ≤ limit
       → BadPlace limit (before ++ (b ∷ rest)) (length before + 1)
   bad_byte before b rest {s} w e h =
       place_after before (b ∷ rest) (walked_begins before w) h
@@ -113,30 +113,30 @@ module _ (limit : ℕ) where
       none_begun : ¬ Begins (take (length before + 1) (before ++ (b ∷ rest)))
       none_begun = rw so_far (unwalked_stops (before ++ (b ∷ [])) (walked_more before b w e))
 
-  reply_on : (text before : List ℕ) (s : State) → walk start before ≡ some s → length before ≤ limit
+  reply_on : (text before : List ℕ) (s : State) → walk start before ≡ Some s → length before ≤ limit
       → PathReply limit (before ++ text) (read_on limit (length before) s text)
   unfolding read_on
   reply_on [] before s w h = rw append-nil (by_finish (finished s) refl)
     where
       by_finish : (o : Option PropertyPath) → finished s ≡ o → PathReply limit before (or_refuse o (PathForm (length before + 1)))
-      by_finish none e = off_path (length before + 1) (unfinished before w e h)
-      by_finish (some p) e =
+      by_finish None e = off_path (length before + 1) (unfinished before w e h)
+      by_finish (Some p) e =
           let d = read_derived before p (ap (λ (o : Option State). o then finished) w ∙ e) in a_path p d (path_nonempty before d) h
   reply_on (b ∷ text) before s w h = by_room (ltb (length before) limit) refl (λ n i j. reply_on text (before ++ (b ∷ [])) n i j)
     where
       Rest : Type 0
-      Rest = (n : State) → walk start (before ++ (b ∷ [])) ≡ some n → length (before ++ (b ∷ [])) ≤ limit
+      Rest = (n : State) → walk start (before ++ (b ∷ [])) ≡ Some n → length (before ++ (b ∷ [])) ≤ limit
           → PathReply limit ((before ++ (b ∷ [])) ++ text) (read_on limit (length (before ++ (b ∷ []))) n text)
 
       by_step : length before < limit → (o : Option State) → step s b ≡ o → Rest
-          → PathReply limit (before ++ (b ∷ text)) (elim o [ none ↦ refused (PathForm (length before + 1)) | some next ↦ read_on limit (length before + 1) next text ])
-      by_step k none e rest = off_path (length before + 1) (bad_byte before b text w e h)
-      by_step k (some n) e rest =
+          → PathReply limit (before ++ (b ∷ text)) (elim o [ None ↦ refused (PathForm (length before + 1)) | Some next ↦ read_on limit (length before + 1) next text ])
+      by_step k None e rest = off_path (length before + 1) (bad_byte before b text w e h)
+      by_step k (Some n) e rest =
           subst₂ (λ (l : List ℕ) k. PathReply limit l (read_on limit k n text)) (append_assoc before (b ∷ []) text) (length-append before (b ∷ []))
           (rest n (walked_more before b w e) (omega (arith, length-append before (b ∷ []))))
 
       by_room : (t : Bool) → ltb (length before) limit ≡ t → Rest → PathReply limit (before ++ (b ∷ text)) (elim t [
-        | true ↦ elim (step s b) [ none ↦ refused (PathForm (length before + 1)) | some next ↦ read_on limit (length before + 1) next text ]
+        | true ↦ elim (step s b) [ None ↦ refused (PathForm (length before + 1)) | Some next ↦ read_on limit (length before + 1) next text ]
         | false ↦ refused (PathForm (length before + 1))
       ])
       by_room true e rest = by_step (ltb-true (length before) limit e) (step s b) refl rest

@@ -1,7 +1,7 @@
 -- The test of 23 passes exactly if the next line is in the plan, the lines run stay below the ceiling, and each register passes with zeros elsewhere.
 use mathlib.Core.Path.{◌≡◌, ap, sym, ◌∙◌}
 use mathlib.Core.Bool.{true, false, ◌&&◌}
-use mathlib.Core.Option.{Option, some, none}
+use Rattle.std.specs.Prelude.{Option, Some, None}
 use mathlib.Core.List.{List}
 use Prim.Native.Nat.{ℕ, ◌+◌, ◌-◌, ◌*◌, ◌^◌, ◌≤◌, ◌<◌}
 use native.Mathlib.Omega.{arith}
@@ -33,8 +33,8 @@ use Rattle.pauses.proofs.Stretched.{stretch_is, space_is, rest_zero, behind_zero
 
 module _ (w L : ℕ) where
   few_rows : (h : Option Cols) (rows : Rows) → register_ok w L h rows ≡ true → length rows ≤ L
-  few_rows none rows e = rw (null_none rows e) (omega arith)
-  few_rows (some D) rows e = leb-true (length rows) L (and_true_left (leb (length rows) L) (every (absent_zero w D) rows && ascend rows) e)
+  few_rows None rows e = rw (null_none rows e) (omega arith)
+  few_rows (Some D) rows e = leb-true (length rows) L (and_true_left (leb (length rows) L) (every (absent_zero w D) rows && ascend rows) e)
 
   -- the rows of a register that there is
   held_at : (n : ℕ) (ws : List ℕ) (i : ℕ) → i < n → held_in w L n ws i ≡ rows_at w L ws i

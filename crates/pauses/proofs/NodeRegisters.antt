@@ -1,7 +1,7 @@
 -- Which registers a node has, and with which columns: its own at the node's place, and a fix's delta register behind those of the fixes before it.
 use mathlib.Core.Path.{◌≡◌, refl, ap, sym, ◌∙◌}
 use mathlib.Core.Bool.{Bool, true}
-use mathlib.Core.Option.{Option, some, none}
+use Rattle.std.specs.Prelude.{Option, Some, None}
 use mathlib.Core.List.{List, [], ◌∷◌, ◌++◌, map, flat_map}
 use Prim.Native.Nat.{ℕ, suc, ◌+◌, ◌≤◌, ◌<◌}
 use native.Mathlib.Omega.{arith}
@@ -21,7 +21,7 @@ use Rattle.machine.specs.Pauses.{delta_columns, own_columns, added_columns, regi
 use Rattle.machine.proofs.RegisterColumns.{added_length}
 
 -- a fix is told by its line
-delta_line : (t : Term) (D : Cols) → delta_columns t D ≡ when has_step (root t) then some D ∷ [] else []
+delta_line : (t : Term) (D : Cols) → delta_columns t D ≡ when has_step (root t) then Some D ∷ [] else []
 unfolding delta_columns
 delta_line (table t) D = refl
 delta_line (var v) D = refl
@@ -62,27 +62,27 @@ module _ (G : Schema) (t : Term) where
   own_at i h =
       let n = own_length in
       let m = nodes_counted in
-      get_or-append (map (own_columns G) nodes_of) (flat_map (added_columns G) nodes_of) none i (omega arith)
-      ∙ get_d_map (own_columns G) no_visit none nodes_of i (omega arith)
+      get_or-append (map (own_columns G) nodes_of) (flat_map (added_columns G) nodes_of) None i (omega arith)
+      ∙ get_d_map (own_columns G) no_visit None nodes_of i (omega arith)
 
   -- the delta registers before a node's, and those from it on
   added_split : (i : ℕ) → flat_map (added_columns G) nodes_of ≡ flat_map (added_columns G) (take i nodes_of) ++ flat_map (added_columns G) (drop i nodes_of)
   added_split i = ap (flat_map (added_columns G)) (sym (take-append-drop i nodes_of)) ∙ flat_map_append (added_columns G) (take i nodes_of) (drop i nodes_of)
 
-  pub delta_at : (i : ℕ) → i < size t → is_fix i ≡ true → columns_at G t (size t + fixes_before i) ≡ some (node_cols i)
+  pub delta_at : (i : ℕ) → i < size t → is_fix i ≡ true → columns_at G t (size t + fixes_before i) ≡ Some (node_cols i)
   unfolding register_columns fixes_before flat_map
   delta_at i h step =
       let m = nodes_counted in
       let k = fixes_before i in
       let all : List (Option Cols) = flat_map (added_columns G) nodes_of in
       let before : List (Option Cols) = flat_map (added_columns G) (take i nodes_of) in
-      let first : added_columns G (node i) ≡ some (node_cols i) ∷ [] = delta_line (node i).term (node_cols i) ∙ rw step in
-      let from : flat_map (added_columns G) (drop i nodes_of) ≡ some (node_cols i) ∷ flat_map (added_columns G) (drop (suc i) nodes_of) =
+      let first : added_columns G (node i) ≡ Some (node_cols i) ∷ [] = delta_line (node i).term (node_cols i) ∙ rw step in
+      let from : flat_map (added_columns G) (drop i nodes_of) ≡ Some (node_cols i) ∷ flat_map (added_columns G) (drop (suc i) nodes_of) =
       ap (flat_map (added_columns G)) (drop-cons nodes_of i no_visit (omega arith)) ∙ ap (λ (l : List (Option Cols)). l ++ flat_map (added_columns G) (drop (suc i) nodes_of)) first in
-      ap (λ (n : ℕ). get_or (register_columns G t) (n + k) none) (sym own_length)
-      ∙ get_or-append-add (map (own_columns G) nodes_of) all k none
-      ∙ ap (λ (l : List (Option Cols)). get_or l k none) (added_split i ∙ ap (λ (l : List (Option Cols)). before ++ l) from)
-      ∙ get_or_at before (some (node_cols i)) (flat_map (added_columns G) (drop (suc i) nodes_of)) none k refl
+      ap (λ (n : ℕ). get_or (register_columns G t) (n + k) None) (sym own_length)
+      ∙ get_or-append-add (map (own_columns G) nodes_of) all k None
+      ∙ ap (λ (l : List (Option Cols)). get_or l k None) (added_split i ∙ ap (λ (l : List (Option Cols)). before ++ l) from)
+      ∙ get_or_at before (Some (node_cols i)) (flat_map (added_columns G) (drop (suc i) nodes_of)) None k refl
 
   pub fixes_none : fixes_before 0 ≡ 0
   unfolding fixes_before flat_map
@@ -95,7 +95,7 @@ module _ (G : Schema) (t : Term) where
       ap length (sym (flat_map_more (added_columns G) nodes_of i no_visit (omega arith)))
       ∙ length-append (flat_map (added_columns G) (take i nodes_of)) (added_columns G (node i))
       ∙ ap (λ (n : ℕ). fixes_before i + n)
-      (ap length (delta_line (node i).term (node_cols i)) ∙ if_apply length (is_fix i) (some (node_cols i) ∷ []) [])
+      (ap length (delta_line (node i).term (node_cols i)) ∙ if_apply length (is_fix i) (Some (node_cols i) ∷ []) [])
 
   pub fixes_all : fixes_before (size t) ≡ fixes t
   unfolding fixes_before

@@ -1,7 +1,7 @@
 -- The test of a node's registers by its line and its told columns, and the nodes tested so far.
 use mathlib.Core.Path.{◌≡◌, refl, ap, ap₂, sym, ◌∙◌, fun_ext}
 use mathlib.Core.Bool.{Bool, true, false, ◌&&◌, ◌||◌}
-use mathlib.Core.Option.{Option, some, none}
+use Rattle.std.specs.Prelude.{Option, Some, None}
 use mathlib.Core.List.{List, [], map}
 use Prim.Native.Nat.{ℕ, ◌+◌, ◌-◌, ◌*◌, ◌<◌}
 use native.Mathlib.Omega.{arith}
@@ -45,7 +45,7 @@ absent_round w D = fun_ext λ (r : Row). all_same _ _ w λ c h.
     ap (λ (b : Bool). b || eqb (slot r c) 0) (held w (columns_of w D) c h (get_d_tabulate D w c false h))
 
 module _ (w L : ℕ) (ws : List ℕ) where
-  some_round : (D : Cols) (i : ℕ) → place_ok w L ws (some (cols_of w (columns_of w D))) i ≡ place_ok w L ws (some D) i
+  some_round : (D : Cols) (i : ℕ) → place_ok w L ws (Some (cols_of w (columns_of w D))) i ≡ place_ok w L ws (Some D) i
   some_round D i =
       let (n, rows) : ℕ × Rows = (count_at w L ws i, rows_at w L ws i) in
       place_some w L ws i (cols_of w (columns_of w D))
@@ -56,14 +56,14 @@ module _ (w L : ℕ) (ws : List ℕ) where
   node_round : (x : Node) (D : Cols) (i delta : ℕ) → node_ok w L ws x (cols_of w (columns_of w D)) i delta ≡ node_ok w L ws x D i delta
   unfolding node_ok
   node_round x D i delta =
-      ap₂ (λ (a b : Bool). when is_var x then place_ok w L ws none i else a && (when has_step x then b else true)) (some_round D i) (some_round D delta)
+      ap₂ (λ (a b : Bool). when is_var x then place_ok w L ws None i else a && (when has_step x then b else true)) (some_round D i) (some_round D delta)
 
   -- a `var` is told by its line, and is no fix
   node_line_lem : (t : Term) (D : Cols) (i delta : ℕ)
-      → node_ok w L ws (root t) D i delta ≡ place_ok w L ws (node_columns t D) i && (when has_step (root t) then place_ok w L ws (some D) delta else true)
+      → node_ok w L ws (root t) D i delta ≡ place_ok w L ws (node_columns t D) i && (when has_step (root t) then place_ok w L ws (Some D) delta else true)
   unfolding node_ok node_columns
   node_line_lem (table t) D i delta = refl
-  node_line_lem (var v) D i delta = sym (and_unit (place_ok w L ws none i))
+  node_line_lem (var v) D i delta = sym (and_unit (place_ok w L ws None i))
   node_line_lem (fact c x) D i delta = refl
   node_line_lem (pair o a b) D i delta = refl
   node_line_lem (filter f a) D i delta = refl
@@ -111,7 +111,7 @@ module _ {w L : ℕ} {q : Query} {facts : Facts} {ws : List ℕ} {d : Database} 
       ∙ node_line_lem w L ws x.term D i (delta_of i)
       ∙ ap₂ ◌&&◌ (ap (λ (o : Option Cols). place_ok w L ws o i) (sym (own_at G t i h))) (by_step (is_fix G t i) refl)
     where
-      by_step : (b : Bool) → is_fix G t i ≡ b → (when b then place_ok w L ws (some (node_cols G t i)) (delta_of i) else true) ≡ when b then fine (delta_of i) else true
+      by_step : (b : Bool) → is_fix G t i ≡ b → (when b then place_ok w L ws (Some (node_cols G t i)) (delta_of i) else true) ≡ when b then fine (delta_of i) else true
       by_step true e = ap (λ (o : Option Cols). place_ok w L ws o (delta_of i)) (sym (delta_at G t i h e))
       by_step false e = refl
 

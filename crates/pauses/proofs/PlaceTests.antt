@@ -1,7 +1,7 @@
 -- The test of one register: of one that is to be zero, and of one with columns.
 use mathlib.Core.Path.{◌≡◌, ap, ap₂, sym, ◌∙◌}
 use mathlib.Core.Bool.{Bool, ◌&&◌}
-use mathlib.Core.Option.{some, none}
+use Rattle.std.specs.Prelude.{Some, None}
 use mathlib.Core.List.{List}
 use Prim.Native.Nat.{ℕ, zero, suc, ◌+◌, ◌-◌, ◌*◌}
 use native.Mathlib.Omega.{arith}
@@ -32,7 +32,7 @@ module _ (w L : ℕ) (ws : List ℕ) (i : ℕ) where
   abbrev pub rest_ok : Bool
   rest_ok = zeros ws (start + 1 + w * count_at w L ws i) (w * (L - count_at w L ws i))
 
-  pub place_none : zeros ws start (stretch w L) ≡ place_ok w L ws none i
+  pub place_none : zeros ws start (stretch w L) ≡ place_ok w L ws None i
   unfolding place_ok rows_of all
   place_none = zeros_sum ws start 1 (w * L) ∙ ap (λ (b : Bool). b && zeros ws (start + 1) (w * L)) first ∙ by_count (count_at w L ws i)
     where
@@ -44,7 +44,7 @@ module _ (w L : ℕ) (ws : List ℕ) (i : ℕ) where
       by_count zero = ap₂ (zeros ws) {x = start + 1} {y = start + 1 + w * 0} (omega (arith, mul-zero w)) (ap (λ (k : ℕ). w * k) (sym (sub-zero L)))
       by_count (suc n) = rw (ne_eqb (suc n) 0 (λ e. omega arith))
 
-  pub place_some : (D : Cols) → place_ok w L ws (some D) i
+  pub place_some : (D : Cols) → place_ok w L ws (Some D) i
       ≡ leb (count_at w L ws i) L && ((every (absent_zero w D) (rows_at w L ws i) && ascend (rows_at w L ws i)) && rest_ok)
   unfolding place_ok
   place_some D =

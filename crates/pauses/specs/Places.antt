@@ -1,6 +1,6 @@
 -- The test of 23 at one register, and at the registers of one node. w is the number of columns, L the row limit.
 use Rattle.std.specs.Prelude.{Bool, true, false, ◌&&◌, List, ℕ, ◌+◌, ◌-◌, ◌*◌, ◌≤◌, eqb, length, get_or, drop}
-use Rattle.std.proofs.Math.Option.{Option, some, none}
+use Rattle.std.specs.Prelude.{Option, Some, None}
 use Rattle.laws.specs.Lists.{when◌then◌else◌, all}
 use Rattle.algebra.specs.Columns.{Cols}
 use Rattle.relation.specs.Rows.{Rows, rows_of}
@@ -45,4 +45,4 @@ is_var (Mu v) = false
 -- the registers of a node by its line, with the node's columns D: its own, i, which is to be zero for a `var`, and a fix's delta register
 unfoldable pub node_ok : ℕ → ℕ → List ℕ → Node → Cols → ℕ → ℕ → Bool
 node_ok w L ws x D i delta =
-    when is_var x then place_ok w L ws none i else place_ok w L ws (some D) i && (when has_step x then place_ok w L ws (some D) delta else true)
+    when is_var x then place_ok w L ws None i else place_ok w L ws (Some D) i && (when has_step x then place_ok w L ws (Some D) delta else true)

@@ -1,6 +1,6 @@
 // Single registers of a workspace that may hold anything: whether each may hold what it holds, and holds nothing else.
 ghost use Rattle.std.specs.Prelude.{◌≡◌, true, ◌+◌, ◌≤◌, length};
-ghost use Rattle.std.proofs.Math.Option.{some, none};
+ghost use Rattle.std.specs.Prelude.{Some, None};
 ghost use Rattle.relation.specs.Rows.{columns, cols_of};
 ghost use Rattle.query.specs.Shape.{has_step};
 ghost use Rattle.pauses.specs.Places.{zeros, place_ok, is_var, node_ok, Room};
@@ -26,7 +26,7 @@ pub fn zeros(ws: &[u32], start: usize, n: usize) -> bool
 // Whether register i is zero.
 fn empty_ok(ws: &[u32], limit: usize, i: usize) -> bool
     requires { Room columns limit i ws.now }
-    ensures { result ≡ place_ok columns limit ws.now none i }
+    ensures { result ≡ place_ok columns limit ws.now None i }
 {
     let size = 1 + COLUMNS * limit;
     zeros(ws, size * i, size)
@@ -36,34 +36,19 @@ fn empty_ok(ws: &[u32], limit: usize, i: usize) -> bool
 // is tested before it is multiplied.
 fn register_ok(ws: &[u32], limit: usize, i: usize, set: Columns) -> bool
     requires { Room columns limit i ws.now }
-    ensures { result ≡ place_ok columns limit ws.now (some (cols_of columns set)) i }
+    ensures { result ≡ place_ok columns limit ws.now (Some (cols_of columns set)) i }
 {
     let start = (1 + COLUMNS * limit) * i;
     let count = ws[start] as usize;
-    if limit < count {
-        return false;
-    }
-    if !rows_ok(set, count, start + 1, ws) {
-        return false;
-    }
-    zeros(ws, start + 1 + COLUMNS * count, COLUMNS * (limit - count))
+    count <= limit
+        && rows_ok(set, count, start + 1, ws)
+        && zeros(ws, start + 1 + COLUMNS * count, COLUMNS * (limit - count))
 }
 
 fn is_var(node: Node) -> bool
     ensures { result ≡ is_var node }
 {
-    match node {
-        Node::Table(_) => false,
-        Node::Var(_) => true,
-        Node::Fact(_, _) => false,
-        Node::Pair(_) => false,
-        Node::Filter(_) => false,
-        Node::Copy(_, _) => false,
-        Node::Drop(_) => false,
-        Node::Fix(_) => false,
-        Node::Mu(_) => false,
-        Node::Last(_) => false,
-    }
+    matches!(node, Node::Var(_))
 }
 
 // Whether the registers of a node may hold what they hold: its own, i, and a fix's delta register.
@@ -74,11 +59,5 @@ pub fn node_ok(ws: &[u32], limit: usize, node: Node, set: Columns, i: usize, del
     if is_var(node) {
         return empty_ok(ws, limit, i);
     }
-    if !register_ok(ws, limit, i, set) {
-        return false;
-    }
-    if has_step(node) {
-        return register_ok(ws, limit, delta, set);
-    }
-    true
+    register_ok(ws, limit, i, set) && (!has_step(node) || register_ok(ws, limit, delta, set))
 }

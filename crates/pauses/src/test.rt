@@ -14,7 +14,7 @@ use query::{Facts, Query};
 use relation::COLUMNS;
 
 // "up to 4,294,967,295 in all"
-const MOST_LINES: u32 = 4294967295;
+const MOST_LINES: u32 = u32::MAX;
 
 // Whether each register may hold what it holds, "one holder a node, in node order, then one more a fix", and all other entries are zero.
 fn registers_ok(query: Query, facts: Facts, limit: usize, ws: &[u32]) -> bool
@@ -26,12 +26,11 @@ fn registers_ok(query: Query, facts: Facts, limit: usize, ws: &[u32]) -> bool
     let mut registers = count; // the next fix's delta register
     for i in 0..count {
         let node = node_at(query, i);
-        let set = facts.columns[i];
-        if !node_ok(ws, limit, node, set, i, registers) {
+        if !node_ok(ws, limit, node, facts.columns[i], i, registers) {
             return false;
         }
         if has_step(node) {
-            registers = registers + 1;
+            registers += 1;
         }
     }
     let used = registers * (1 + COLUMNS * limit);
@@ -53,15 +52,8 @@ pub fn pause_ok(
         → result ≡ pause_ok (schema columns d) limit budget t pause ws.now }
 {
     let next = pause.next as usize;
-    if next == 0 {
+    if next == 0 || lines < next {
         return false;
     }
-    if lines < next {
-        return false;
-    }
-    let ran = pause.ran;
-    if MOST_LINES - ran < budget {
-        return false;
-    }
-    registers_ok(query, facts, limit, ws)
+    budget <= MOST_LINES - pause.ran && registers_ok(query, facts, limit, ws)
 }

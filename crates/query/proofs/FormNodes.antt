@@ -1,7 +1,7 @@
 -- The test of each node's form (1), and what the test of a query's form (2, 1) says.
 use mathlib.Core.Path.{◌≡◌, refl}
 use mathlib.Core.Bool.{Bool, true, false, ◌&&◌}
-use mathlib.Core.Option.{Option, some, none}
+use Rattle.std.specs.Prelude.{Option, Some, None}
 use Prim.Native.Nat.{ℕ, ◌+◌, ◌≤◌, ◌<◌}
 use native.Mathlib.Omega.{arith}
 use lib.Dec.{leb}
@@ -22,8 +22,8 @@ abbrev pub formed : ℕ → Query → ℕ → Bool
 formed w q i = on_form w (get_or (nodes q) i (Table 0))
 
 by_lowest : Option ℕ → Reply (Unit {0})
-by_lowest none = accepted tt
-by_lowest (some i) = refused (QueryForm (i + 1))
+by_lowest None = accepted tt
+by_lowest (Some i) = refused (QueryForm (i + 1))
 
 module _ (w : ℕ) (q : Query) where
   pub all_formed : ((i : ℕ) → i < q.count → formed w q i ≡ true) → check_nodes w q ≡ accepted tt
@@ -40,8 +40,8 @@ module _ (w : ℕ) (q : Query) where
     where
       by_lowest_lem : (o : Option ℕ) → lowest (formed w q) q.count ≡ o → by_lowest o ≡ accepted tt
           → (i : ℕ) → i < q.count → formed w q i ≡ true
-      by_lowest_lem none f e = (lowest_none (formed w q) q.count).0 f
-      by_lowest_lem (some j) f e = let z : ◌≡◌ {A = ℕ} 0 1 = cc in absurd (omega arith)
+      by_lowest_lem None f e = (lowest_none (formed w q) q.count).0 f
+      by_lowest_lem (Some j) f e = let z : ◌≡◌ {A = ℕ} 0 1 = cc in absurd (omega arith)
 
   module _ (limit : ℕ) where
     -- 2 comes first

@@ -2,14 +2,15 @@
 use mathlib.Core.Path.{◌≡◌, refl, ap, ap₂, sym, ◌∙◌}
 use mathlib.Core.List.{List, [], ◌∷◌, ◌++◌}
 use Prim.Native.Nat.{ℕ, ◌+◌, ◌<◌}
-use lib.ListN.{length, get_or, take}
+use lib.ListN.{length, get_or, take, drop}
 use lib.Seq.{take-length}
-use Rattle.laws.proofs.Passes.{walk, walk_more}
+use Rattle.std.proofs.lemmas.List.{take-append-drop}
+use Rattle.laws.proofs.Passes.{walk, walk_append, walk_more}
+use Rattle.std.specs.Prelude.{Err}
 use Rattle.algebra.specs.Term.{Term}
 use Rattle.algebra.specs.Columns.{no_cols, Schema}
 use Rattle.database.specs.declared.Refusal.{Refusal}
-use Rattle.database.specs.declared.Verdict.{Verdict}
-use Rattle.database.specs.declared.Verdict.TheVariants.{Accepted}
+use Rattle.database.specs.Refusals.{Verdict, no_refusal}
 use Rattle.database.specs.Refusals.{Reply, verdict, no_fault, ◌>>=◌}
 use Rattle.query.specs.declared.Query.{Query}
 use Rattle.query.specs.Check.{first_pass, second_pass}
@@ -29,7 +30,7 @@ module _ (f : List Visit → Visit → List Refusal) (vs : List Visit) where
   abbrev pub found : ℕ → Verdict
   found i = verdict (no_fault (walk f [] (take i vs)))
 
-  pub found_none : Accepted ≡ found 0
+  pub found_none : no_refusal ≡ found 0
   unfolding walk
   found_none = refl
 
@@ -38,6 +39,16 @@ module _ (f : List Visit → Visit → List Refusal) (vs : List Visit) where
   found_more i h u v e g =
       ap₂ first_of e g ∙ first_of_faults (walk f [] (take i vs)) (f (take i vs) (get_or vs i no_visit))
       ∙ ap (λ (l : List Refusal). verdict (no_fault l)) (sym (walk_more f vs i no_visit h))
+
+  -- where the nodes before have no fault, that of a node is the first of all
+  pub found_first : (i : ℕ) → i < length vs → no_refusal ≡ found i → {r : Refusal}
+      → Err r ≡ verdict (no_fault (f (take i vs) (get_or vs i no_visit))) → Err r ≡ verdict (no_fault (walk f [] vs))
+  found_first i h e {r} g =
+      let rest = walk f (take (i + 1) vs) (drop (i + 1) vs) in
+      ap (λ (v : Verdict). first_of v (verdict (no_fault rest))) (found_more i h no_refusal (Err r) e g)
+      ∙ first_of_faults (walk f [] (take (i + 1) vs)) rest
+      ∙ ap (λ (l : List Refusal). verdict (no_fault l)) (sym (walk_append f [] (take (i + 1) vs) (drop (i + 1) vs)))
+      ∙ ap (λ (l : List Visit). verdict (no_fault (walk f [] l))) (take-append-drop (i + 1) vs)
 
   pub found_all : (i : ℕ) → i ≡ length vs → found i ≡ verdict (no_fault (walk f [] vs))
   found_all i e = ap (λ (l : List Visit). verdict (no_fault (walk f [] l))) (ap (λ (k : ℕ). take k vs) e ∙ take-length vs)

@@ -1,6 +1,6 @@
 -- Where reading stops: at the first line whose operands are missing (3).
 use mathlib.Core.Path.{◌≡◌, refl, ap, sym, ◌∙◌}
-use mathlib.Core.Option.{Option, some, none}
+use Rattle.std.specs.Prelude.{Option, Some, None}
 use mathlib.Core.List.{List, [], ◌∷◌, ◌++◌}
 use mathlib.Core.Logic.{◌↔◌, ◌⊎◌, inl, inr, ◌≢◌}
 use Prim.Native.Nat.{ℕ, ◌+◌}
@@ -23,7 +23,7 @@ pub record Missing (n : ℕ) (ns : List Node) (stack : List Term) (r : Refusal) 
   pub left : List Term
   pub splits : ns ≡ before ++ (line ∷ after)
   pub reads : read n before stack ≡ accepted left
-  pub lacks : push line left ≡ none
+  pub lacks : push line left ≡ None
   pub named : r ≡ Operands (n + length before + 1)
 
 stops : (n : ℕ) (ns : List Node) (stack : List Term) (r : Refusal) → read n ns stack ≡ refused r → Missing n ns stack r
@@ -33,7 +33,7 @@ stops n (x ∷ ns) stack r e = by_push (push x stack) refl (sym (read_cons n x n
   where
     by_push : (o : Option (List Term)) → push x stack ≡ o → read_on n ns o ≡ refused r
         → ((next : List Term) → read (n + 1) ns next ≡ refused r → Missing (n + 1) ns next r) → Missing n (x ∷ ns) stack r
-    by_push none i j rest = record {
+    by_push None i j rest = record {
       before = [];
       line = x;
       after = ns;
@@ -43,7 +43,7 @@ stops n (x ∷ ns) stack r e = by_push (push x stack) refl (sym (read_cons n x n
       lacks = i;
       named = let k : Operands (n + 1) ≡ r = cc in sym k ∙ ap Operands (omega arith);
     }
-    by_push (some next) i j rest =
+    by_push (Some next) i j rest =
         let m = rest next j in
         record {
           before = x ∷ m.before;

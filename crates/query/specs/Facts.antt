@@ -1,17 +1,18 @@
 -- What the check tells later stages of each node. w is the number of columns.
-use Rattle.std.specs.Prelude.{List, [], ◌∷◌, ◌++◌, map, ℕ, ◌+◌, ◌-◌, length, replicate}
+use Rattle.std.specs.Prelude.{List, [], ◌∷◌, ◌++◌, map, ℕ, ◌+◌, ◌-◌, length, replicate, Result, Ok, Err}
 use Rattle.laws.specs.Lists.{member, tabulate}
 use Rattle.algebra.specs.Term.{Term, table, var, fact, pair, filter, copy, drop, last, fix, mu}
 use Rattle.algebra.specs.Columns.{Cols, no_cols, Schema, cols, free, size}
 use Rattle.relation.specs.Rows.{columns_of}
 use Rattle.database.specs.Stored.{table_limit}
-use Rattle.database.specs.Refusals.{Reply, refused, accepted, verdict}
+use Rattle.database.specs.declared.Refusal.{Refusal}
+use Rattle.database.specs.Refusals.{Reply, refused, accepted}
 use Rattle.query.specs.declared.Variables.{Variables}
 use Rattle.query.specs.declared.Facts.{Facts}
 use Rattle.query.specs.declared.Query.{Query}
-use Rattle.query.specs.declared.CheckedQuery.{CheckedQuery}
+use Rattle.query.specs.declared.Checked.{Checked}
 use Rattle.query.specs.Lines.{node_limit}
-use Rattle.query.specs.Check.{split_of}
+use Rattle.query.specs.Check.{split_sheet}
 
 -- a node of a term: how many lines stand before its own, the term that it ends, the columns of the variable around it, and the numbers of
 -- the fixes in whose step it lies, the innermost first
@@ -56,6 +57,7 @@ abbrev pub visited : Schema → Reply Term → List Visit
 visited G (refused r) = []
 visited G (accepted t) = visits G no_cols [] 0 t
 
--- of a query q, what the check replies to it
-abbrev pub checked_value : Schema → Query → Reply Term → CheckedQuery
-checked_value G q r = record { verdict = verdict r; query = split_of q r; facts = facts_of G (visited G r) }
+-- of a query q, what the check replies to it: a refusal, or the split sheet with what it tells of each node
+abbrev pub checked_value : Schema → Query → Reply Term → Result Checked Refusal
+checked_value G q (refused r) = Err r
+checked_value G q (accepted t) = Ok (record { query = split_sheet q t; facts = facts_of G (visits G no_cols [] 0 t) })

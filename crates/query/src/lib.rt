@@ -2,7 +2,6 @@
 #![tactic(auto)]
 
 use algebra::{Condition, Pairing};
-use database::Verdict;
 use relation::Columns;
 
 pub mod forms; // forms.rt: the form of a query as a value (2, 1)
@@ -15,7 +14,7 @@ pub use nodes::preceding;
 pub const NODES: usize = 128;
 
 // A node line, by the format's words; filters are the lines `eq`, `ne`, `max` and `same`.
-#[derive(Clone, Copy)]
+#[derive(Clone, Copy, Debug, PartialEq, Eq)]
 pub enum Node {
     Table(u32),
     Var(u32),
@@ -29,13 +28,13 @@ pub enum Node {
     Last(u32),
 }
 
-#[derive(Clone, Copy)]
+#[derive(Clone, Copy, Debug, PartialEq, Eq)]
 pub struct Line {
     pub node: Node,
 }
 
 // A sheet handed in as a value. Lines past the count mean nothing.
-#[derive(Clone, Copy)]
+#[derive(Clone, Copy, Debug, PartialEq, Eq)]
 pub struct Query {
     pub count: usize,
     pub lines: [Line; NODES],
@@ -45,37 +44,22 @@ pub struct Query {
 pub const VARIABLES: usize = 16;
 
 // A set of recursion variables.
-#[derive(Clone, Copy)]
+#[derive(Clone, Copy, Debug, PartialEq, Eq)]
 pub struct Variables {
     pub has: [bool; VARIABLES],
 }
 
 // What the check tells of each node, in node order: the index of its first line, its free variables, its columns.
-#[derive(Clone, Copy)]
+#[derive(Clone, Copy, Debug, PartialEq, Eq)]
 pub struct Facts {
     pub start: [usize; NODES],
     pub free: [Variables; NODES],
     pub columns: [Columns; NODES],
 }
 
-// What a check replies: the split sheet, in which each `mu` is a fix, with the facts of its nodes; a refusal comes with the query as given and blank facts.
-#[derive(Clone, Copy)]
-pub struct CheckedQuery {
-    pub verdict: Verdict,
+// What a check tells of an accepted query: the split sheet, in which each `mu` is a fix, with the facts of its nodes.
+#[derive(Clone, Copy, Debug, PartialEq, Eq)]
+pub struct Checked {
     pub query: Query,
     pub facts: Facts,
-}
-
-// Where a line's node starts, by the nodes before it, or that an operand is missing.
-#[derive(Clone, Copy)]
-pub enum Begin {
-    At(usize),
-    Missing,
-}
-
-// What the shape of a query replies: the starts of its nodes, in node order; zeros beside a refusal.
-#[derive(Clone, Copy)]
-pub struct CheckedShape {
-    pub verdict: Verdict,
-    pub start: [usize; NODES],
 }

@@ -1,66 +1,38 @@
 // The shape of a query (3): "a line takes the latest nodes not yet taken". The first line of each node, lowest node first.
 ghost use Rattle.std.specs.Prelude.{◌≡◌, ℕ, ◌+◌, ◌-◌, ◌≤◌, ◌<◌, get_or};
-ghost use Rattle.database.specs.Refusals.{refused};
 ghost use Rattle.query.specs.Lines.{node_limit, nodes, term_of};
 ghost use Rattle.query.specs.Shape.{arity, begin, shape_of};
 
 use super::nodes::{node_at, operands};
-use super::{Begin, CheckedShape, NODES, Node, Query};
-use database::{Refusal, Verdict};
+use super::{NODES, Query};
+use database::Refusal;
 
-// Where the node of index i starts, by the starts of those before it.
-fn begin(count: usize, start: [usize; NODES], i: usize) -> Begin
+// Where the node of index i starts, by the starts of those before it; none where an operand is missing.
+fn begin(count: usize, start: [usize; NODES], i: usize) -> Option<usize>
     requires { (i < node_limit) × ((k : ℕ) → get_or start k 0 ≤ k) }
     ensures { result ≡ begin count start i }
 {
     if count == 0 {
-        return Begin::At(i);
+        return Some(i);
     }
-    if i == 0 {
-        return Begin::Missing;
-    }
-    let last = start[i - 1];
+    let last = start[i.checked_sub(1)?];
     if count == 1 {
-        return Begin::At(last);
+        return Some(last);
     }
-    if last == 0 {
-        return Begin::Missing;
-    }
-    Begin::At(start[last - 1])
-}
-
-// 3 at a node.
-fn unshaped(node: usize) -> CheckedShape
-    ensures { result ≡ shape_of (refused (Refusal.Operands node)) }
-{
-    CheckedShape {
-        verdict: Verdict::Refused(Refusal::Operands(node)),
-        start: [0; NODES],
-    }
+    Some(start[last.checked_sub(1)?])
 }
 
 // The starts of all nodes; 3 at the first node whose operand is missing, else at the last node if several roots are left.
-pub fn shape(query: Query) -> CheckedShape
+pub fn shape(query: Query) -> Result<[usize; NODES], Refusal>
     requires { (1 ≤ query.count) × (query.count ≤ node_limit) }
     ensures { result ≡ shape_of (term_of (nodes query)) }
 {
-    let count = query.count;
-    let mut start = [0usize; NODES];
-    let mut i: usize = 0;
-    while i < count {
-        let node = node_at(query, i);
-        let begun = begin(operands(node), start, i);
-        let Begin::At(first) = begun else {
-            return unshaped(i + 1);
-        };
-        start[i] = first;
-        i += 1;
+    let mut start = [0; NODES];
+    for i in 0..query.count {
+        start[i] = begin(operands(node_at(query, i)), start, i).ok_or(Refusal::Operands(i + 1))?;
     }
-    if start[count - 1] == 0 {
-        return CheckedShape {
-            verdict: Verdict::Accepted,
-            start,
-        };
+    if start[query.count - 1] != 0 {
+        return Err(Refusal::Operands(query.count));
     }
-    unshaped(count)
+    Ok(start)
 }

@@ -1,7 +1,7 @@
 -- Reading a sheet's text: the stored nodes, the end of the text, and the stages together.
 use mathlib.Core.Path.{◌≡◌, refl, ap, sym, ◌∙◌, fun_ext}
 use mathlib.Core.Bool.{Bool, true, false, ◌&&◌, and-false}
-use mathlib.Core.Option.{Option, some, none}
+use Rattle.std.specs.Prelude.{Option, Some, None}
 use mathlib.Core.List.{List, [], ◌∷◌, ◌++◌, map}
 use Prim.Native.Nat.{ℕ, ◌+◌, ◌-◌, ◌≤◌, ◌<◌, min}
 use native.Mathlib.Omega.{arith}
@@ -12,21 +12,19 @@ use Rattle.laws.specs.Lists.{when◌then◌else◌, null}
 use Rattle.laws.proofs.Tests.{and_true_right}
 use Rattle.laws.proofs.Fronts.{null_drop, more_drop, filled_more}
 use Rattle.database.specs.declared.Refusal.TheVariants.{QueryForm, NodeCount}
-use Rattle.database.specs.declared.Verdict.TheVariants.{Accepted}
-use Rattle.database.specs.Refusals.{Reply, refused, accepted, require, ◌>>=◌}
+use Rattle.std.specs.Prelude.{Result, Ok, Err}
+use Rattle.database.specs.declared.Refusal.{Refusal}
+use Rattle.database.specs.Refusals.{Reply, refused, accepted, require, ◌>>=◌, verdict}
 use Rattle.query.specs.declared.Node.{Node}
 use Rattle.query.specs.declared.Query.{Query}
 use Rattle.query.specs.Lines.{line, blank, node_limit}
 use Rattle.text.specs.declared.line_reader.Cursor.{Cursor}
-use Rattle.text.specs.declared.line_reader.Opened.{Opened}
-use Rattle.node_reading.specs.declared.DueNode.TheVariants as node
 use Rattle.text.specs.Numbers.{bytes, max_number}
 use Rattle.text.specs.Lines.{Rest, due, many, ended, node_line}
 use Rattle.text.specs.Texts.{read_nodes, query_value}
 use Rattle.text.specs.Replies.{query_reply}
-use Rattle.text.specs.Cursors.{rest_at, Placed, due_line, opened_at}
-use Rattle.node_reading.specs.NodeReading.{node_due}
-use Rattle.reading.specs.QueryReading.{stored, end_test, query_or, end_reply, line_nodes}
+use Rattle.text.specs.Cursors.{rest_at, Placed, due_line, Opened, opened_at}
+use Rattle.reading.specs.QueryReading.{stored, end_test, line_nodes}
 use Rattle.text.proofs.Exact.{many_again}
 use Rattle.text.proofs.ReaderLawsDue.{due_reply, due_reply_lem, due_placed, opening, behind_opened, opening_reply}
 use Rattle.text.proofs.ReaderLawsMany.{Left, left_none, left_more, left_stops, left_all}
@@ -73,26 +71,18 @@ end_room s n limit u e = by_tests_lem (null s.bytes) (leb 1 n && leb n (min limi
     by_tests_lem true false q e = let z : ◌≡◌ {A = ℕ} 0 1 = cc in let w : ⊥ = omega arith in absurd w
     by_tests_lem false b q e = let z : ◌≡◌ {A = ℕ} 0 1 = cc in let w : ⊥ = omega arith in absurd w
 
--- the stored query is the reply's where the count has room
+-- what is replied behind the last due line: the stored query, where the count has room
+abbrev pub ended_reply : Result (Unit {0}) Refusal → Query → Result Query Refusal
+ended_reply (Err r) q = Err r
+ended_reply (Ok u) q = Ok q
+
 pub end_query : (text : List ℕ) (c : Cursor) (n limit : ℕ) (ns : List Node) (q : Query) → (n ≤ node_limit → q ≡ query_value ns)
-    → end_reply text c n limit q ≡ query_reply (end_test (rest_at text c) n limit >>= (λ _. accepted ns))
+    → ended_reply (verdict (end_test (rest_at text c) n limit)) q ≡ query_reply (end_test (rest_at text c) n limit >>= (λ _. accepted ns))
 end_query text c n limit ns q h = by_case (end_test (rest_at text c) n limit) refl
   where
-    by_case : (r : Reply (Unit {0})) → end_test (rest_at text c) n limit ≡ r → query_or q r ≡ query_reply (r >>= (λ _. accepted ns))
+    by_case : (r : Reply (Unit {0})) → end_test (rest_at text c) n limit ≡ r → ended_reply (verdict r) q ≡ query_reply (r >>= (λ _. accepted ns))
     by_case (refused r) e = refl
-    by_case (accepted u) e = ap (λ q. record { query = q; verdict = Accepted }) (h (end_room (rest_at text c) n limit u e))
-
--- the node that a due line replies
-pub due_none : (o : Option (Node × Cursor)) → node.Bad ≡ node_due o → o ≡ none
-due_none none e = refl
-due_none (some p) e = let z : ◌≡◌ {A = ℕ} 0 1 = cc in let w : ⊥ = omega arith in absurd w
-
-pub due_some : (o : Option (Node × Cursor)) (n : Node) (c : Cursor) → node.Next n c ≡ node_due o → o ≡ some (n, c)
-due_some none n c e = let z : ◌≡◌ {A = ℕ} 0 1 = cc in let w : ⊥ = omega arith in absurd w
-due_some (some p) n c e =
-    let x : p.0 ≡ n = cc in
-    let y : p.1 ≡ c = cc in
-    ap (λ n. some (n, p.1)) x ∙ ap (λ c. some (n, c)) y
+    by_case (accepted u) e = ap Ok (h (end_room (rest_at text c) n limit u e))
 
 -- after i of the announced lines: the nodes read so far come first, the other lines are left, and as many nodes are stored as there is room for
 pub record Turn (w : ℕ) (text : List ℕ) (first : Cursor) (count : ℕ) (query : Query) (c : Cursor) (i : ℕ) : Type 0 where
@@ -121,7 +111,7 @@ module _ (w : ℕ) (text : List ℕ) (first : Cursor) (count : ℕ) (query : Que
   here : (o : Option (Node × Cursor)) → due_line (node_line w) text c ≡ o → part (rest_at text c) ≡ due_reply (node_line w) text c QueryForm o
   here o e = due_reply_lem (node_line w) text c QueryForm ∙ ap (due_reply (node_line w) text c QueryForm) e
 
-  pub turn_more : i < count → (n : Node) (next : Cursor) → due_line (node_line w) text c ≡ some (n, next) → Turn w text first count (stored query n) next (i + 1)
+  pub turn_more : i < count → (n : Node) (next : Cursor) → due_line (node_line w) text c ≡ Some (n, next) → Turn w text first count (stored query n) next (i + 1)
   turn_more h n next e =
       let long = t.long in
       record {
@@ -130,16 +120,16 @@ module _ (w : ℕ) (text : List ℕ) (first : Cursor) (count : ℕ) (query : Que
         nodes = t.nodes ++ (n ∷ []);
         long = omega (arith, length-append t.nodes (n ∷ []));
         held = λ k. ap (λ q. stored q n) (t.held (omega arith)) ∙ stored_more t.nodes n (omega arith);
-        left = left_more (many_again part) count tt (rest_at text first) (rest_at text c) t.nodes t.left n (rest_at text next) (omega arith) (here (some (n, next)) e);
+        left = left_more (many_again part) count tt (rest_at text first) (rest_at text c) t.nodes t.left n (rest_at text next) (omega arith) (here (Some (n, next)) e);
       }
 
-  pub turn_stops : i < count → (limit : ℕ) → due_line (node_line w) text c ≡ none → line_nodes w text first count limit ≡ refused (QueryForm c.line)
+  pub turn_stops : i < count → (limit : ℕ) → due_line (node_line w) text c ≡ None → line_nodes w text first count limit ≡ refused (QueryForm c.line)
   turn_stops h limit e =
       let long = t.long in
       ap (λ r. r >>= (λ p. end_test p.1 count limit >>= (λ _. accepted p.0)))
-      (left_stops (many_again part) count tt (rest_at text first) (rest_at text c) t.nodes t.left (QueryForm c.line) (omega arith) (here none e))
+      (left_stops (many_again part) count tt (rest_at text first) (rest_at text c) t.nodes t.left (QueryForm c.line) (omega arith) (here None e))
 
-  pub turn_all : count ≤ i → (limit : ℕ) → end_reply text c count limit query ≡ query_reply (line_nodes w text first count limit)
+  pub turn_all : count ≤ i → (limit : ℕ) → ended_reply (verdict (end_test (rest_at text c) count limit)) query ≡ query_reply (line_nodes w text first count limit)
   turn_all h limit =
       let long = t.long in
       let few = t.few in

@@ -4,5 +4,5 @@
 mod query_reader;
 mod step_reader;
 
-pub use query_reader::{no_nodes, read_query, refused_query, with_node};
+pub use query_reader::{no_nodes, read_query, with_node};
 pub use step_reader::{due_step, read_step};

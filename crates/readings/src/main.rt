@@ -3,20 +3,18 @@
 // fails ends the program with its error.
 #![tactic(auto)]
 
-ghost use Rattle.std.specs.Prelude.{◌≡◌, ◌≤◌, length, take};
+ghost use Rattle.std.specs.Prelude.{◌≤◌};
 
 use checking::check;
-use database::{Database, Refusal, TABLE_ROWS, Verdict, row_count, table_columns};
+use database::{Database, Refusal, TABLE_ROWS, row_count, table_columns};
+use files::read_file;
 use loading::read_database;
-use output::Written;
 use query::{NODES, Query};
 use query_writing::write_query;
 use reading::{read_query, read_step};
 use relation::{COLUMNS, Columns};
-use std::io::Read;
 use std::rt::Files;
 use std::{fs, io};
-use text::{ReadDatabase, ReadStep};
 use writing::{write_answer, write_refusal};
 
 // The store has room for one table of as many rows as a table can have.
@@ -36,80 +34,33 @@ fn is_there(rt: &impl Files, name: &str) -> bool {
     fs::open(rt, name).is_ok()
 }
 
-// How many bytes were read until the slice is full, the file ends or a read fails.
-fn read_full(file: &mut impl Read, bytes: &mut [u8]) -> usize
-    ensures bound { result ≤ length bytes.new }
-    ensures part { result ≡ length (take result bytes.new) }
-{
-    let mut done = 0;
-    while done < bytes.len() {
-        let n = file.read(&mut bytes[done..]).unwrap_or(0);
-        if n == 0 {
-            break;
-        }
-        done += n;
-    }
-    done
-}
-
-// How many bytes of a file were read; none where it is missing.
-fn read_file(rt: &impl Files, name: &str, text: &mut [u8]) -> usize
-    ensures bound { result ≤ length text.new }
-    ensures part { result ≡ length (take result text.new) }
-{
-    match fs::open(rt, name) {
-        Ok(mut file) => read_full(&mut file, text),
-        Err(_) => 0,
+fn print_written(rt: &impl Print, written: Result<usize, Refusal>, text: &[u8]) -> io::Result<()> {
+    match written {
+        Ok(n) if n <= text.len() => rt.write_all(&text[..n]),
+        Ok(_) => Ok(()),
+        Err(_) => println!(rt; "short"),
     }
 }
 
-fn print(rt: &impl Print, text: &[u8]) -> io::Result<()> {
-    rt.write_all(text)
-}
-
-fn print_part(rt: &impl Print, text: &[u8], n: usize) -> io::Result<()> {
-    if text.len() < n {
-        return Ok(());
-    }
-    print(rt, &text[0..n])
-}
-
-fn print_written(rt: &impl Print, w: Written, text: &[u8]) -> io::Result<()> {
-    match w {
-        Written::Bytes(n) => print_part(rt, text, n),
-        Written::Short => println!(rt; "short"),
-    }
-}
-
-fn print_refusal(rt: &impl Print, r: Refusal) -> io::Result<()> {
+fn print_refusal(rt: &impl Print, refusal: Refusal) -> io::Result<()> {
     let mut out = [0u8; SMALL];
-    let w = write_refusal(r, &mut out);
-    print_written(rt, w, &out)
+    let written = write_refusal(refusal, &mut out);
+    print_written(rt, written, &out)
 }
 
-fn print_query(rt: &impl Print, q: Query) -> io::Result<()> {
+fn print_query(rt: &impl Print, query: Query) -> io::Result<()> {
     let mut out = [0u8; SMALL];
-    let w = write_query(q, &mut out);
-    print_written(rt, w, &out)
+    let written = write_query(query, &mut out);
+    print_written(rt, written, &out)
 }
 
 // The lines of a table: those of an answer but the first and the last.
-fn print_inner(rt: &impl Print, text: &[u8], n: usize) -> io::Result<()> {
-    if n < FIRST + LAST {
-        return Ok(());
-    }
-    if text.len() < n {
-        return Ok(());
-    }
-    let end = n - LAST;
-    print(rt, &text[FIRST..end])
-}
-
 fn print_table(rt: &impl Print, columns: Columns, rows: &[u32], count: usize) -> io::Result<()> {
     let mut out = [0u8; LARGE];
     match write_answer(columns, rows, count, 0, &mut out) {
-        Written::Bytes(n) => print_inner(rt, &out, n),
-        Written::Short => println!(rt; "short"),
+        Ok(n) if FIRST + LAST <= n && n <= out.len() => rt.write_all(&out[FIRST..n - LAST]),
+        Ok(_) => Ok(()),
+        Err(_) => println!(rt; "short"),
     }
 }
 
@@ -118,101 +69,72 @@ fn rows_behind(from: usize, count: usize, entries: usize) -> usize
     requires { from ≤ entries }
     ensures { result ≤ entries }
 {
-    if TABLE_ROWS < count {
-        return entries;
-    }
-    if entries - from < COLUMNS * count {
+    if TABLE_ROWS < count || entries - from < COLUMNS * count {
         return entries;
     }
     from + COLUMNS * count
 }
 
-fn print_tables(rt: &impl Print, d: Database, store: &[u32]) -> io::Result<()> {
-    let tables = d.tables;
+fn print_tables(rt: &impl Print, database: Database, store: &[u32]) -> io::Result<()> {
     let mut from = 0;
-    for t in 0..tables {
-        let columns = table_columns(d, t);
-        let count = row_count(d, t);
-        print_table(rt, columns, &store[from..], count)?;
+    for t in 0..database.tables {
+        let count = row_count(database, t);
+        print_table(rt, table_columns(database, t), &store[from..], count)?;
         from = rows_behind(from, count, store.len());
     }
     Ok(())
 }
 
-fn print_database(rt: &impl Print, d: Database, store: &[u32]) -> io::Result<()> {
-    let tables = d.tables;
-    println!(rt; "guide=1\ntables={tables}")?;
-    print_tables(rt, d, store)
-}
-
-fn print_step(rt: &impl Print, kind: u32, node: u32) -> io::Result<()> {
-    println!(rt; "step={kind},{node}")
+fn print_database(rt: &impl Print, database: Database, store: &[u32]) -> io::Result<()> {
+    println!(rt; "guide=1\ntables={}", database.tables)?;
+    print_tables(rt, database, store)
 }
 
 fn show_step(rt: &(impl Files + Print)) -> io::Result<()> {
     let mut text = [0u8; SMALL];
     let n = read_file(rt, "step.txt", &mut text);
     match read_step(&text[..n]) {
-        ReadStep::Step { kind, node } => print_step(rt, kind, node),
-        ReadStep::Bad => print_refusal(rt, Refusal::NoMatch),
+        Some(step) => println!(rt; "step={},{}", step.kind, step.node),
+        None => print_refusal(rt, Refusal::NoMatch),
     }
 }
 
-fn show_query(rt: &(impl Files + Print)) -> io::Result<()> {
+// The sheet's text, if it is there.
+fn given_query(rt: &impl Files) -> Result<Query, Refusal> {
     let mut text = [0u8; LARGE];
     let n = read_file(rt, "query.txt", &mut text);
-    let read = read_query(&text[..n], NODES);
-    let q = read.query;
-    let verdict = read.verdict;
-    match verdict {
-        Verdict::Accepted => print_query(rt, q),
-        Verdict::Refused(r) => print_refusal(rt, r),
+    read_query(&text[..n], NODES)
+}
+
+// The sheet, checked over a book.
+fn checked_query(rt: &impl Files, database: Database, store: &[u32]) -> Result<Query, Refusal> {
+    let query = given_query(rt)?;
+    check(query, database, store, NODES)?;
+    Ok(query)
+}
+
+fn show_query(rt: &impl Print, read: Result<Query, Refusal>) -> io::Result<()> {
+    match read {
+        Ok(query) => print_query(rt, query),
+        Err(refusal) => print_refusal(rt, refusal),
     }
 }
 
-fn show_checked(rt: &impl Print, q: Query, d: Database, store: &[u32]) -> io::Result<()> {
-    let checked = check(q, d, store, NODES);
-    let verdict = checked.verdict;
-    match verdict {
-        Verdict::Accepted => print_query(rt, q),
-        Verdict::Refused(r) => print_refusal(rt, r),
-    }
-}
-
-fn show_query_over(rt: &(impl Files + Print), d: Database, store: &[u32]) -> io::Result<()> {
-    let mut text = [0u8; LARGE];
-    let n = read_file(rt, "query.txt", &mut text);
-    let read = read_query(&text[..n], NODES);
-    let q = read.query;
-    let verdict = read.verdict;
-    match verdict {
-        Verdict::Accepted => show_checked(rt, q, d, store),
-        Verdict::Refused(r) => print_refusal(rt, r),
-    }
-}
-
-fn show_stored(rt: &(impl Files + Print), d: Database, store: &[u32]) -> io::Result<()> {
+fn show_stored(rt: &(impl Files + Print), database: Database, store: &[u32]) -> io::Result<()> {
     if is_there(rt, "query.txt") {
-        return show_query_over(rt, d, store);
+        return show_query(rt, checked_query(rt, database, store));
     }
-    print_database(rt, d, store)
-}
-
-fn show_loaded(rt: &(impl Files + Print), read: ReadDatabase, store: &[u32]) -> io::Result<()> {
-    let d = read.database;
-    let verdict = read.verdict;
-    match verdict {
-        Verdict::Accepted => show_stored(rt, d, store),
-        Verdict::Refused(r) => print_refusal(rt, r),
-    }
+    print_database(rt, database, store)
 }
 
 fn show_database(rt: &(impl Files + Print)) -> io::Result<()> {
     let mut store = [0u32; STORE];
     let mut text = [0u8; LARGE];
     let n = read_file(rt, "database.txt", &mut text);
-    let read = read_database(&text[..n], &mut store);
-    show_loaded(rt, read, &store)
+    match read_database(&text[..n], &mut store) {
+        Ok(database) => show_stored(rt, database, &store),
+        Err(refusal) => print_refusal(rt, refusal),
+    }
 }
 
 fn main(rt: HostRuntime) -> io::Result<()> {
@@ -222,5 +144,5 @@ fn main(rt: HostRuntime) -> io::Result<()> {
     if is_there(&rt, "database.txt") {
         return show_database(&rt);
     }
-    show_query(&rt)
+    show_query(&rt, given_query(&rt))
 }

@@ -2,7 +2,7 @@
 -- place, within the step's node limit.
 use mathlib.Core.Path.{◌≡◌, refl, ap, sym, ◌∙◌, subst}
 use mathlib.Core.Bool.{Bool, true, false}
-use mathlib.Core.Option.{some}
+use Rattle.std.specs.Prelude.{Some}
 use mathlib.Core.List.{List}
 use Prim.Native.Nat.{ℕ, ◌+◌, ◌≤◌}
 use native.Mathlib.Omega.{arith}
@@ -54,7 +54,7 @@ pub none_added : (k : ℕ) → k ≤ 6 → added k ≡ 0
 none_added k h = rw (ne_eqb k 7 (λ e. omega arith))
 
 module _ (w limit : ℕ) (q : Query) (d : Database) (store : List ℕ) (t : Term) (over : check_over w limit q d store ≡ accepted t) (k n : ℕ)
-    (a : Term) (e : ended_at (lines t) n ≡ some a) where
+    (a : Term) (e : ended_at (lines t) n ≡ Some a) where
   abbrev G : Schema
   G = schema w d
 
@@ -65,7 +65,7 @@ module _ (w limit : ℕ) (q : Query) (d : Database) (store : List ℕ) (t : Term
   checked_now = ((check_over_iff w limit q d store t).0 over).1
 
   -- at an open node no step of kinds 1 to 6 is accepted
-  pub node_closed : (m : Match) → match k a ≡ some m → OperandClosed m → Closed G a
+  pub node_closed : (m : Match) → match k a ≡ Some m → OperandClosed m → Closed G a
   node_closed m found shut = part_closed w limit q d store t over n a e k m found ((closed_iff m).1 shut)
 
   -- what a rule writes may be put for its node

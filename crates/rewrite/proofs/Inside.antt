@@ -1,7 +1,7 @@
 -- Where a node stands in a term: the way down to it. Its lines are some of the term's, after those of whole terms; another term may be put in its place, and
 -- what ends at a place of a term's lines is the node there.
 use mathlib.Core.Path.{◌≡◌, refl, ap, sym, ◌∙◌, subst}
-use mathlib.Core.Option.{some}
+use Rattle.std.specs.Prelude.{Some}
 use mathlib.Core.List.{List, [], ◌∷◌, ◌++◌, append_assoc, append-nil}
 use Prim.Native.Nat.{ℕ, ◌+◌, ◌-◌, ◌≤◌}
 use native.Mathlib.Omega.{arith}
@@ -79,7 +79,7 @@ module _ {ns : List Node} {n : ℕ} {a : Term} where
         ∙ read_flat_lem x.stack (lines a ++ []) ∙ read_lines a (length (flat x.stack)) [] x.stack
 
     -- so it is what the definition finds there
-    pub ended_found : ended_at ns n ≡ some a
+    pub ended_found : ended_at ns n ≡ Some a
     unfolding ended_at
     ended_found = rw (le-leb n (length ns) (omega (arith, ended_length x)), ended_reads)
 
@@ -92,7 +92,7 @@ module _ {ns : List Node} {n : ℕ} {a : Term} where
         ∙ ap (λ (l : List Node). flat x.stack ++ (lines b ++ l)) (ap (dropFirst n) parts ∙ drop_at up_to x.rest n long)
 
   -- what the definition finds ends there
-  pub found_ended : ended_at ns n ≡ some a → Ended ns n a
+  pub found_ended : ended_at ns n ≡ Some a → Ended ns n a
   found_ended e =
       let f = ends_at ns n a e in
       let i = f.within in
@@ -187,7 +187,7 @@ module _ {a : Term} where
     within_lines = omega (arith, ended_length (place h).at, size_lines t)
 
     -- the node is what ends there
-    pub inside_found : ended_at (lines t) n ≡ some a
+    pub inside_found : ended_at (lines t) n ≡ Some a
     inside_found = ended_found (place h).at
 
     -- the lines with another term put in its place
@@ -255,7 +255,7 @@ node_inside (fix v a b) n h k =
 node_inside (mu v a) n h k = of_one_lem a (mu v a) n refl (λ x. in_mu) k (λ i. node_inside a n h i)
 
 -- the node that ends at n lies inside
-pub found_inside : (t : Term) (n : ℕ) (a : Term) → ended_at (lines t) n ≡ some a → Inside a n t
+pub found_inside : (t : Term) (n : ℕ) (a : Term) → ended_at (lines t) n ≡ Some a → Inside a n t
 found_inside t n a e =
     let f = found_ended e in
     let x = node_inside t n (let i = f.ends in omega (arith, size_positive a)) (omega (arith, ended_length f, size_lines t)) in

@@ -1,7 +1,7 @@
 -- U9: "No rearranging rule moves it: kind 1 at such a line gets 12", and so does every other kind.
 use mathlib.Core.Path.{◌≡◌, refl, ap, sym, ◌∙◌}
 use mathlib.Core.Bool.{Bool}
-use mathlib.Core.Option.{Option, some, none}
+use Rattle.std.specs.Prelude.{Option, Some, None}
 use mathlib.Core.List.{List, [], ◌∷◌, ◌++◌}
 use Prim.Native.Nat.{ℕ, suc, ◌+◌}
 use native.Mathlib.Omega.{arith}
@@ -40,7 +40,7 @@ take_past [] after x = refl
 take_past (y ∷ before) after x = ap (λ (l : List Node). y ∷ l) (take_past before after x)
 
 -- so what ends at one is one
-ended_last : (c : ℕ) (before after : List Node) (a : Term) → ended_at (before ++ (Last c ∷ after)) (length before + 1) ≡ some a → (b : Term) × (a ≡ last c b)
+ended_last : (c : ℕ) (before after : List Node) (a : Term) → ended_at (before ++ (Last c ∷ after)) (length before + 1) ≡ Some a → (b : Term) × (a ≡ last c b)
 ended_last c before after a e =
     let f = ends_at (before ++ (Last c ∷ after)) (length before + 1) a e in
     let upto = ap (λ (k : ℕ). take k (before ++ (Last c ∷ after))) (add-one (length before)) ∙ take_past before after (Last c) in
@@ -62,7 +62,7 @@ last_stays w limit q d store t checked c before after e k = rw (checked, e) (by_
     by_node : (o : Option Term) → ended_at (before ++ (Last c ∷ after)) (length before + 1) ≡ o
         → (or_refuse o NoMatch >>= (λ a. rule_of (ltb (size t) limit) (schema w d) (around (schema w d) no_cols t (length before + 1)) k a
         >>= (λ b. accepted (with_nodes q (replaced (before ++ (Last c ∷ after)) (length before + 1) a b))))) ≡ refused NoMatch
-    by_node none i = refl
-    by_node (some a) i =
+    by_node None i = refl
+    by_node (Some a) i =
         let (b, j) = ended_last c before after a i in
         rw (j, last_unruled (ltb (size t) limit) (schema w d) (around (schema w d) no_cols t (length before + 1)) k c b)

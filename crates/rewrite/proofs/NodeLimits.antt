@@ -3,7 +3,7 @@
 use mathlib.Core.Path.{◌≡◌, refl, ap, sym, ◌∙◌}
 use mathlib.Core.Bool.{Bool}
 use mathlib.Core.List.{List, [], ◌∷◌, map}
-use mathlib.Core.Option.{Option, some, none}
+use Rattle.std.specs.Prelude.{Option, Some, None}
 use Prim.Native.Nat.{ℕ, ◌+◌, ◌≤◌, ◌<◌}
 use native.Mathlib.Omega.{arith}
 use lib.Dec.{leb, ltb}
@@ -46,8 +46,8 @@ module _ (q : Query) (limit limit' : ℕ) (e : leb q.count limit ≡ leb q.count
   rewrite_agree = rw (← check_over_agree q limit limit' e w d store) (by_check (check_over w limit q d store) refl)
     where
       by_node : (t : Term) → (k ≡ 7 → ltb (size t) limit ≡ ltb (size t) limit') → (o : Option Term) → or_refuse o NoMatch >>= wrote limit t ≡ or_refuse o NoMatch >>= wrote limit' t
-      by_node t h none = refl
-      by_node t h (some a) =
+      by_node t h None = refl
+      by_node t h (Some a) =
           ap (λ (r : Reply Term). r >>= λ b. accepted (with_nodes q (replaced (lines t) n a b))) (same_rule (ltb (size t) limit) (ltb (size t) limit') h (C t) a)
 
       by_check : (c : Reply Term) → check_over w limit q d store ≡ c

@@ -2,7 +2,7 @@
 -- isn't, must be unused and isn't, or the other operand is open; else what the rule writes.
 use mathlib.Core.Path.{◌≡◌, refl, sym, ◌∙◌, subst}
 use mathlib.Core.Bool.{Bool, true, false}
-use mathlib.Core.Option.{Option, some, none}
+use Rattle.std.specs.Prelude.{Option, Some, None}
 use mathlib.Core.Logic.{◌↔◌}
 use Prim.Native.Nat.{ℕ}
 use Rattle.laws.proofs.Tests.{true_false}
@@ -18,12 +18,12 @@ use Rattle.database.specs.Refusals.{Reply, refused, accepted, require, or_refuse
 use Rattle.rewrite.specs.Rewrite.{rule}
 
 pub data RuleReply (G : Schema) (C : Cols) (k : ℕ) (a : Term) : Reply Term → Type 0 where
-  no_match : match k a ≡ none → RuleReply G C k a (refused NoMatch)
-  unstable : (m : Match) → match k a ≡ some m → ¬ StableColumns G C m → RuleReply G C k a (refused Unstable)
-  in_use : (m : Match) → match k a ≡ some m → StableColumns G C m → ¬ UnusedColumns G C m → RuleReply G C k a (refused Used)
-  open_operand : (m : Match) → match k a ≡ some m → StableColumns G C m → UnusedColumns G C m → ¬ OperandClosed m
+  no_match : match k a ≡ None → RuleReply G C k a (refused NoMatch)
+  unstable : (m : Match) → match k a ≡ Some m → ¬ StableColumns G C m → RuleReply G C k a (refused Unstable)
+  in_use : (m : Match) → match k a ≡ Some m → StableColumns G C m → ¬ UnusedColumns G C m → RuleReply G C k a (refused Used)
+  open_operand : (m : Match) → match k a ≡ Some m → StableColumns G C m → UnusedColumns G C m → ¬ OperandClosed m
       → RuleReply G C k a (refused OpenOperand)
-  allowed : (m : Match) → match k a ≡ some m → StableColumns G C m → UnusedColumns G C m → OperandClosed m
+  allowed : (m : Match) → match k a ≡ Some m → StableColumns G C m → UnusedColumns G C m → OperandClosed m
       → RuleReply G C k a (accepted (written m))
 
 -- a test that failed: its condition does not hold
@@ -39,7 +39,7 @@ tests s u c b = do
   accepted b
 
 module _ (G : Schema) (C : Cols) (k : ℕ) (a : Term) where
-  tested : (m : Match) → match k a ≡ some m → (s u c : Bool)
+  tested : (m : Match) → match k a ≡ Some m → (s u c : Bool)
       → (s ≡ true) ↔ StableColumns G C m → (u ≡ true) ↔ UnusedColumns G C m → (c ≡ true) ↔ OperandClosed m → RuleReply G C k a (tests s u c (written m))
   unfolding tests
   tested m found false u c f g h = unstable m found (failed f refl)
@@ -53,13 +53,13 @@ module _ (G : Schema) (C : Cols) (k : ℕ) (a : Term) where
     where
       by_match : (o : Option Match) → match k a ≡ o
           → RuleReply G C k a (or_refuse o NoMatch >>= (λ m. tests (stable_enough G C m) (unused_enough G C m) (closed_enough m) (written m)))
-      by_match none e = no_match e
-      by_match (some m) e =
+      by_match None e = no_match e
+      by_match (Some m) e =
           let r : Narrow G (redex m) = subst (Narrow G) (matched k a e) n in
           tested m e (stable_enough G C m) (unused_enough G C m) (closed_enough m) (stable_iff G C below m r) (unused_iff G C below m r) (closed_iff m)
 
   -- where all conditions hold the rule is accepted
-  pub rule_allowed : Below G.width C → Narrow G a → (m : Match) → match k a ≡ some m
+  pub rule_allowed : Below G.width C → Narrow G a → (m : Match) → match k a ≡ Some m
       → StableColumns G C m → UnusedColumns G C m → OperandClosed m → rule G C k a ≡ accepted (written m)
   unfolding rule
   rule_allowed below n m found h i j =

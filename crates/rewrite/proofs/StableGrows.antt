@@ -1,7 +1,7 @@
 -- U5 takes no step away: each one that document 01's stability accepted is accepted still, with the same sheet.
 use mathlib.Core.Path.{◌≡◌, refl, sym, ◌∙◌, subst}
 use mathlib.Core.Bool.{Bool, true, false}
-use mathlib.Core.Option.{Option, some, none}
+use Rattle.std.specs.Prelude.{Option, Some, None}
 use mathlib.Core.List.{List}
 use Prim.Native.Nat.{ℕ, ◌≤◌, ◌<◌}
 use native.Mathlib.Omega.{arith}
@@ -54,13 +54,13 @@ unfolding rewrite rule
 by_origins w limit q d store k n h = rw (le-leb k 6 h)
 
 -- no other kind matches
-pair_unmatched : (k : ℕ) → 6 < k → (o : Pairing) (a b : Term) → pair_match k o a b ≡ none
+pair_unmatched : (k : ℕ) → 6 < k → (o : Pairing) (a b : Term) → pair_match k o a b ≡ None
 unfolding pair_match
 pair_unmatched k h Union a b = refl
 pair_unmatched k h Join a b = rw (ne_eqb k 2 (λ e. omega arith), ne_eqb k 3 (λ e. omega arith), ne_eqb k 6 (λ e. omega arith))
 pair_unmatched k h Except a b = rw (ne_eqb k 4 (λ e. omega arith))
 
-unmatched : (k : ℕ) → 6 < k → (a : Term) → match k a ≡ none
+unmatched : (k : ℕ) → 6 < k → (a : Term) → match k a ≡ None
 unfolding match
 unmatched k h (table t) = refl
 unmatched k h (var v) = refl
@@ -90,7 +90,7 @@ tests_grow false s' u c b f e = accepted_refused (sym e)
 
 module _ (G : Schema) (C : Cols) (k : ℕ) (a : Term) where
   -- at a node whose match, if its other operand is closed, is closed
-  rule_grows : {p : Term} → ((m : Match) → match k a ≡ some m → closed_enough m ≡ true → Closed G (redex m))
+  rule_grows : {p : Term} → ((m : Match) → match k a ≡ Some m → closed_enough m ≡ true → Closed G (redex m))
       → rule_by undropped_enough G C k a ≡ accepted p → rule_by stable_enough G C k a ≡ accepted p
   unfolding tests
   rule_grows {p} h = by_match (match k a) refl
@@ -98,8 +98,8 @@ module _ (G : Schema) (C : Cols) (k : ℕ) (a : Term) where
       by_match : (o : Option Match) → match k a ≡ o
           → or_refuse o NoMatch >>= (λ m. tests (undropped_enough G C m) (unused_enough G C m) (closed_enough m) (written m)) ≡ accepted p
           → or_refuse o NoMatch >>= (λ m. tests (stable_enough G C m) (unused_enough G C m) (closed_enough m) (written m)) ≡ accepted p
-      by_match none e i = accepted_refused (sym i)
-      by_match (some m) e i =
+      by_match None e i = accepted_refused (sym i)
+      by_match (Some m) e i =
           tests_grow (undropped_enough G C m) (stable_enough G C m) (unused_enough G C m) (closed_enough m) (written m)
           (λ s c. undropped_enough_lem G C m (h m e c) s) i
 
@@ -117,6 +117,6 @@ stable_grows w limit q d store k n p e =
           (part_closed w limit q d store t over n a (ended (ended_at (lines t) n) ends) k m found c)) ruled,
     ) e₃
   where
-    ended : {a : Term} (o : Option Term) → or_refuse o NoMatch ≡ accepted a → o ≡ some a
-    ended none i = accepted_refused (sym i)
-    ended (some b) i = cc
+    ended : {a : Term} (o : Option Term) → or_refuse o NoMatch ≡ accepted a → o ≡ Some a
+    ended None i = accepted_refused (sym i)
+    ended (Some b) i = cc

@@ -6,12 +6,12 @@ use native.Mathlib.Omega.{arith}
 use Rattle.relation.specs.Rows.{columns}
 use Rattle.database.specs.declared.Database.{Database}
 use Rattle.database.specs.declared.Refusal.{Refusal}
-use Rattle.database.specs.declared.Verdict.TheVariants.{Accepted, Refused}
+use Rattle.std.specs.Prelude.{Result, Ok, Err}
 use Rattle.database.specs.Stored.{schema}
 use Rattle.database.specs.Refusals.{refused}
 use Rattle.query.specs.declared.Query.{Query}
 use Rattle.query.specs.declared.Facts.{Facts}
-use Rattle.query.specs.declared.CheckedQuery.{CheckedQuery}
+use Rattle.query.specs.declared.Checked.{Checked}
 use Rattle.query.specs.Lines.{node_limit}
 use Rattle.query.specs.Facts.{checked_value}
 use Rattle.query.specs.Check.{check_over}
@@ -24,29 +24,29 @@ use Rattle.matching.proofs.NodeReply.{checked_placed}
 use Rattle.rewriting.specs.Steps.{step_reply}
 use Rattle.rewriting.proofs.StepExact.{step_exact}
 
-module _ (limit : ℕ) (q : Query) (d : Database) (store : List ℕ) (x : CheckedQuery)
+module _ (limit : ℕ) (q : Query) (d : Database) (store : List ℕ) {x : Result Checked Refusal}
     (e : x ≡ checked_value (schema columns d) q (check_over columns (min limit node_limit) q d store)) (k n : ℕ) where
   abbrev most : ℕ
   most = min limit node_limit
 
-  pub step_refused : (c : Refusal) → x.verdict ≡ Refused c → refused c ≡ rewrite columns most q d store k n
+  pub step_refused : (c : Refusal) → x ≡ Err c → refused c ≡ rewrite columns most q d store k n
   unfolding rewrite
-  step_refused c f = rw (refusal_handed most q d store x e f)
+  step_refused c f = rw (refusal_handed most q d store e f)
 
-  module _ (f : x.verdict ≡ Accepted) where
-    handed : Handed most q d store x
-    handed = sheet_handed most q d store x e f
+  module _ {y : Checked} (f : x ≡ Ok y) where
+    handed : Handed most q d store y
+    handed = sheet_handed most q d store e f
 
-    fits : x.query.count ≤ node_limit
-    fits = let r = ((check_over_iff columns most x.query d store handed.term).0 handed.over).1.in_range_lem in omega arith
+    fits : y.query.count ≤ node_limit
+    fits = let r = ((check_over_iff columns most y.query d store handed.term).0 handed.over).1.in_range_lem in omega arith
 
-    pub step_placed : Placed x.query x.facts
+    pub step_placed : Placed y.query y.facts
     step_placed =
-        subst (Placed x.query) (sym handed.told) (checked_placed most x.query d store handed.term handed.over handed.own handed.counted fits)
+        subst (Placed y.query) (sym handed.told) (checked_placed most y.query d store handed.term handed.over handed.own handed.counted fits)
 
     -- a step of the split sheet is a step of the query as given
-    pub step_accepted : step_reply most x.query x.facts k n ≡ rewrite columns most q d store k n
+    pub step_accepted : step_reply most y.query y.facts k n ≡ rewrite columns most q d store k n
     step_accepted =
-        ap (λ (g : Facts). step_reply most x.query g k n) handed.told
-        ∙ step_exact most x.query d store handed.term handed.over handed.own handed.counted fits k n
+        ap (λ (g : Facts). step_reply most y.query g k n) handed.told
+        ∙ step_exact most y.query d store handed.term handed.over handed.own handed.counted fits k n
         ∙ ap (λ (p : Query). rewrite columns most p d store k n) handed.sheet ∙ split_rewrites columns most q d store handed.term handed.checked k n

@@ -1,2 +1,3 @@
 pub mod StepExact
 pub mod Checks
+pub mod Handing

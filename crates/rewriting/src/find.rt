@@ -10,15 +10,11 @@ use query::nodes::{has_step, node_at, preceding};
 use query::{Facts, Node, Query};
 
 // What is found over an operand, if that is a fix.
-fn over_fix(query: Query, operand: usize, found: Found) -> Found
+fn over_fix(query: Query, operand: usize, found: Found) -> Option<Found>
     requires { (operand < query.count) × (query.count ≤ node_limit) }
     ensures { result ≡ over_fix query operand found }
 {
-    if has_step(node_at(query, operand)) {
-        found
-    } else {
-        Found::Nothing
-    }
+    has_step(node_at(query, operand)).then_some(found)
 }
 
 // Where the left operand of the pair of an index ends: just before its right one starts.
@@ -30,88 +26,79 @@ fn left_of(facts: Facts, i: usize) -> usize
 }
 
 // 1. "Filter over fix"
-fn filter_found(query: Query, kind: u32, i: usize, condition: Condition) -> Found
+fn filter_found(query: Query, kind: u32, i: usize, condition: Condition) -> Option<Found>
     requires { (i < query.count) × (query.count ≤ node_limit) }
     ensures { result ≡ filter_found query kind i condition }
 {
     if kind != 1 {
-        return Found::Nothing;
+        return None;
     }
     let operand = preceding(i);
     over_fix(query, operand, Found::FilterFix(condition, operand))
 }
 
 // 5. "Drop over fix"
-fn drop_found(query: Query, kind: u32, i: usize, column: u32) -> Found
+fn drop_found(query: Query, kind: u32, i: usize, column: u32) -> Option<Found>
     requires { (i < query.count) × (query.count ≤ node_limit) }
     ensures { result ≡ drop_found query kind i column }
 {
     if kind != 5 {
-        return Found::Nothing;
+        return None;
     }
     let operand = preceding(i);
     over_fix(query, operand, Found::DropFix(column, operand))
 }
 
 // 2. "Join, fix on the left"; 3. "The mirror of 2"; 6. "Join of two fixes"
-fn join_found(query: Query, facts: Facts, kind: u32, i: usize) -> Found
+fn join_found(query: Query, facts: Facts, kind: u32, i: usize) -> Option<Found>
     requires { (i < query.count) × (query.count ≤ node_limit) × StartsLow facts }
     ensures { result ≡ join_found query facts kind i }
 {
     let left = left_of(facts, i);
     let right = preceding(i);
-    if kind == 2 {
-        return over_fix(query, left, Found::FixJoin(left, right));
+    match kind {
+        2 => over_fix(query, left, Found::FixJoin(left, right)),
+        3 => over_fix(query, right, Found::JoinFix(left, right)),
+        6 => {
+            let found = over_fix(query, left, Found::FixFix(left, right))?;
+            over_fix(query, right, found)
+        }
+        _ => None,
     }
-    if kind == 3 {
-        return over_fix(query, right, Found::JoinFix(left, right));
-    }
-    if kind == 6 {
-        let both = over_fix(query, right, Found::FixFix(left, right));
-        return over_fix(query, left, both);
-    }
-    Found::Nothing
 }
 
 // 4. "Except, fix on the left"
-fn except_found(query: Query, facts: Facts, kind: u32, i: usize) -> Found
+fn except_found(query: Query, facts: Facts, kind: u32, i: usize) -> Option<Found>
     requires { (i < query.count) × (query.count ≤ node_limit) × StartsLow facts }
     ensures { result ≡ except_found query facts kind i }
 {
     if kind != 4 {
-        return Found::Nothing;
+        return None;
     }
     let left = left_of(facts, i);
     over_fix(query, left, Found::FixExcept(left, preceding(i)))
 }
 
-fn pair_found(query: Query, facts: Facts, kind: u32, i: usize, pairing: Pairing) -> Found
+fn pair_found(query: Query, facts: Facts, kind: u32, i: usize, pairing: Pairing) -> Option<Found>
     requires { (i < query.count) × (query.count ≤ node_limit) × StartsLow facts }
     ensures { result ≡ pair_found query facts kind i pairing }
 {
     match pairing {
-        Pairing::Union => Found::Nothing,
+        Pairing::Union => None,
         Pairing::Join => join_found(query, facts, kind, i),
         Pairing::Except => except_found(query, facts, kind, i),
     }
 }
 
 // What a kind finds at the node of an index.
-pub fn find(query: Query, facts: Facts, kind: u32, i: usize) -> Found
+pub fn find(query: Query, facts: Facts, kind: u32, i: usize) -> Option<Found>
     requires { (i < query.count) × (query.count ≤ node_limit) × StartsLow facts }
     ensures { result ≡ found_at query facts kind i }
 {
-    let node = node_at(query, i);
-    match node {
-        Node::Table(_) => Found::Nothing,
-        Node::Var(_) => Found::Nothing,
-        Node::Fact(_, _) => Found::Nothing,
+    match node_at(query, i) {
         Node::Pair(pairing) => pair_found(query, facts, kind, i, pairing),
         Node::Filter(condition) => filter_found(query, kind, i, condition),
-        Node::Copy(_, _) => Found::Nothing,
         Node::Drop(column) => drop_found(query, kind, i, column),
-        Node::Fix(_) => Found::Nothing,
-        Node::Mu(_) => Found::Nothing,
-        Node::Last(_) => Found::Nothing,
+        _ => None,
     }
 }

@@ -1,5 +1,5 @@
 // The sheet that a rule of kinds 1 to 6 writes, 12 to 15 in order, and the step of a checked query.
-ghost use Rattle.std.specs.Prelude.{◌≡◌, ◌<◌, ◌≤◌};
+ghost use Rattle.std.specs.Prelude.{◌≡◌, ◌<◌, ◌≤◌, IfSome};
 ghost use Rattle.query.specs.Lines.{node_limit};
 ghost use Rattle.rewrite.specs.Places.{StartsLow};
 ghost use Rattle.rewrite.specs.Rewrite.{rewritten};
@@ -8,14 +8,14 @@ ghost use Rattle.rewriting.specs.Steps.{step_reply};
 
 use super::find::find;
 use conditions::judged;
-use database::{Refusal, Verdict};
+use database::Refusal;
 use matching::Found;
 use passing::pass;
 use query::nodes::{node_at, preceding};
 use query::{Facts, Query};
+use rewrite::Unchanged;
 use rewrite::nodes::fix_number;
 use rewrite::splice::{exchange, merge};
-use rewrite::{Rewritten, refuse};
 
 // Kinds 1 to 5: step and fix move behind what follows them, up to the node's own line.
 fn moved(query: Query, facts: Facts, i: usize, fix: usize) -> Query
@@ -44,46 +44,48 @@ fn written(query: Query, facts: Facts, i: usize, found: Found) -> Query
     ensures { result ≡ written_at query facts i found }
 {
     match found {
-        Found::Nothing => query,
-        Found::FilterFix(_, fix) => moved(query, facts, i, fix),
-        Found::FixJoin(fix, _) => moved(query, facts, i, fix),
-        Found::JoinFix(_, fix) => moved(query, facts, i, fix),
-        Found::FixExcept(fix, _) => moved(query, facts, i, fix),
-        Found::DropFix(_, fix) => moved(query, facts, i, fix),
+        Found::FilterFix(_, fix)
+        | Found::FixJoin(fix, _)
+        | Found::JoinFix(_, fix)
+        | Found::FixExcept(fix, _)
+        | Found::DropFix(_, fix) => moved(query, facts, i, fix),
         Found::FixFix(left, right) => united(query, facts, i, left, right),
     }
 }
 
 // "then 12 to 15 in order"
-fn apply(query: Query, facts: Facts, i: usize, found: Found) -> Rewritten
-    requires { (i < query.count) × Fits facts i found × (query.count ≤ node_limit) × StartsLow facts }
+fn apply(query: Query, facts: Facts, i: usize, found: Option<Found>) -> Result<Query, Unchanged>
+    requires { (i < query.count) × IfSome found (Fits facts i) × (query.count ≤ node_limit) × StartsLow facts }
     ensures { result ≡ rewritten query (reply_to query facts i found) }
 {
-    let verdict = judged(query, facts, found);
-    match verdict {
-        Verdict::Refused(cause) => refuse(query, cause),
-        Verdict::Accepted => Rewritten {
-            query: written(query, facts, i, found),
-            verdict: Verdict::Accepted,
-        },
+    match judged(query, facts, found) {
+        Ok(found) => Ok(written(query, facts, i, found)),
+        Err(refusal) => Err(Unchanged { query, refusal }),
     }
 }
 
 // The step of a checked query, from what the check tells of its nodes. No node count over `limit` is written.
-pub fn rewrite_checked(query: Query, facts: Facts, limit: usize, kind: u32, node: u32) -> Rewritten
+pub fn rewrite_checked(
+    query: Query,
+    facts: Facts,
+    limit: usize,
+    kind: u32,
+    node: u32,
+) -> Result<Query, Unchanged>
     requires { Placed query facts × (limit ≤ node_limit) }
     ensures { result ≡ rewritten query (step_reply limit query facts kind node) }
 {
     let n = node as usize;
-    if n == 0 {
-        return refuse(query, Refusal::NoMatch);
-    }
-    if query.count < n {
-        return refuse(query, Refusal::NoMatch);
+    if n == 0 || query.count < n {
+        return Err(Unchanged {
+            query,
+            refusal: Refusal::NoMatch,
+        });
     }
     let i = n - 1;
     if kind <= 6 {
-        return apply(query, facts, i, find(query, facts, kind, i));
+        apply(query, facts, i, find(query, facts, kind, i))
+    } else {
+        pass(query, facts, limit, kind, i)
     }
-    pass(query, facts, limit, kind, i)
 }

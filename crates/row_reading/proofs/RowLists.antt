@@ -1,7 +1,7 @@
 -- Columns and rows read from arrays of numbers.
 use mathlib.Core.Path.{◌≡◌, refl, ap, sym, ◌∙◌}
 use mathlib.Core.Bool.{Bool, true, false, ◌&&◌, ◌||◌, and-false}
-use mathlib.Core.Option.{Option, some, none}
+use Rattle.std.specs.Prelude.{Option, Some, None}
 use mathlib.Core.List.{List, [], ◌∷◌}
 use Prim.Native.Nat.{ℕ, ◌+◌, ◌≤◌, ◌<◌}
 use native.Mathlib.Omega.{arith}
@@ -14,7 +14,7 @@ use Rattle.laws.proofs.Tests.{and_true_left, and_true_right}
 use Rattle.laws.proofs.Fronts.{drop_next}
 use Rattle.row_reading.specs.declared.list_reader.Numbers.{Numbers}
 use Rattle.text.specs.Lines.{ascending, in_range, filled}
-use Rattle.row_reading.specs.NumberArrays.{listed, few, or_empty}
+use Rattle.row_reading.specs.NumberArrays.{listed, few}
 
 -- the numbers of an array from an index on
 module _ (ns : Numbers) (k : ℕ) where
@@ -95,25 +95,16 @@ module _ (w : ℕ) where
 
   -- columns of a list that is short enough are the columns of any list
   pub cols_few : (o : Option (List ℕ)) → in_range columns_in (few w o) ≡ in_range columns_in o
-  cols_few none = refl
-  cols_few (some l) = by_test (leb (length l) w) refl
+  cols_few None = refl
+  cols_few (Some l) = by_test (leb (length l) w) refl
     where
-      over : (t : Bool) → columns_in l ≡ t → w < length l → none ≡ when t then some l else none
+      over : (t : Bool) → columns_in l ≡ t → w < length l → None ≡ when t then Some l else None
       over true e h = let z : ⊥ = omega (arith, columns_few l e) in absurd z
       over false e h = refl
 
-      by_test : (t : Bool) → leb (length l) w ≡ t → in_range columns_in (when t then some l else none) ≡ in_range columns_in (some l)
+      by_test : (t : Bool) → leb (length l) w ≡ t → in_range columns_in (when t then Some l else None) ≡ in_range columns_in (Some l)
       by_test true e = refl
       by_test false e = over (columns_in l) refl (leb-false (length l) w e)
-
-  pub cols_empty : (o : Option (List ℕ)) → (when columns_in (or_empty o) then or_empty o else []) ≡ or_empty (in_range columns_in o)
-  unfolding ascending every
-  cols_empty none = refl
-  cols_empty (some l) = by_test (columns_in l)
-    where
-      by_test : (t : Bool) → (when t then l else []) ≡ or_empty (when t then some l else none)
-      by_test true = refl
-      by_test false = refl
 
 -- columns filled one by one
 pub filled_more : (r : List ℕ) (c v : ℕ) (cs vs : List ℕ) → filled r (c ∷ cs) (v ∷ vs) ≡ filled (set r c v) cs vs

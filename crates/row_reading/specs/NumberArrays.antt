@@ -1,6 +1,6 @@
 -- Lists of numbers as the code holds them: an array with room for a number a column, and how many there are.
-use Rattle.std.proofs.Math.Option.{Option, some, none}
-use Rattle.std.specs.Prelude.{List, [], ◌++◌, ℕ, ◌+◌, ◌-◌, leb, length, take, set, replicate}
+use Rattle.std.specs.Prelude.{Option}
+use Rattle.std.specs.Prelude.{List, ◌++◌, ℕ, ◌+◌, ◌-◌, leb, length, take, set, replicate}
 use Rattle.relation.specs.Rows.{columns}
 use Rattle.row_reading.specs.declared.list_reader.Numbers.{Numbers}
 use Rattle.text.specs.Lines.{in_range}
@@ -18,8 +18,3 @@ with_number ns n = record { count = ns.count + 1; values = set ns.values ns.coun
 -- no more numbers than w
 abbrev pub few : ℕ → Option (List ℕ) → Option (List ℕ)
 few w o = in_range (λ l. leb (length l) w) o
-
--- a list that isn't there is empty: a list of numbers never is
-abbrev pub or_empty : Option (List ℕ) → List ℕ
-or_empty none = []
-or_empty (some l) = l

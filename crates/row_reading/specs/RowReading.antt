@@ -1,36 +1,27 @@
 -- What the readers of the lines `cols=` and `row=` reply. w is the number of columns.
-use Rattle.std.specs.Prelude.{Bool, true, false, List, [], ℕ, replicate}
-use Rattle.std.proofs.Math.Option.{Option, some, none}
+use Rattle.std.specs.Prelude.{List, ℕ}
+use Rattle.std.specs.Prelude.{Option}
+use Rattle.laws.specs.Options.{mapped}
 use Rattle.relation.specs.declared.Row.{Row}
-use Rattle.relation.specs.Rows.{columns}
 use Rattle.text.specs.declared.line_reader.Cursor.{Cursor}
-use Rattle.text.specs.declared.line_reader.Due.TheVariants.{Next, Bad}
-use Rattle.row_reading.specs.declared.row_reader.DueCols.{DueCols}
-use Rattle.row_reading.specs.declared.row_reader.ReadRow.{ReadRow}
-use Rattle.row_reading.specs.declared.row_reader.DueRow.{DueRow}
+use Rattle.row_reading.specs.declared.list_reader.Numbers.{Numbers}
 use Rattle.text.specs.Lines.{numbers_after, row_of}
 use Rattle.row_reading.specs.NumberArrays.{numbers_of}
 
-abbrev pub cols_due : Option (List ℕ × Cursor) → DueCols
-cols_due none = record { cols = numbers_of []; due = Bad }
-cols_due (some p) = record { cols = numbers_of p.0; due = Next p.1 }
+-- a row as the code has it
+abbrev pub as_row : List ℕ → Row
+as_row slots = record { slots = slots }
 
--- the row above, unless the row is the first
-abbrev pub above_of : Bool → Row → Option (List ℕ)
-above_of true r = none
-above_of false r = some r.slots
+-- the row above, if there is one
+abbrev pub above_of : Option Row → Option (List ℕ)
+above_of o = mapped (λ (r : Row). r.slots) o
 
 -- the row of a `row=` line, whatever stands above it
 abbrev pub values_row : ℕ → List ℕ → List ℕ → Option (List ℕ)
 values_row w cs l = row_of w cs (numbers_after "row=" l)
 
-abbrev pub no_slots : List ℕ
-no_slots = replicate columns 0
+abbrev pub cols_due : Option (List ℕ × Cursor) → Option (Numbers × Cursor)
+cols_due o = mapped (λ p. (numbers_of p.0, p.1)) o
 
-abbrev pub row_reply : Option (List ℕ) → ReadRow
-row_reply none = record { row = record { slots = no_slots }; good = false }
-row_reply (some r) = record { row = record { slots = r }; good = true }
-
-abbrev pub row_due : Option (List ℕ × Cursor) → DueRow
-row_due none = record { row = record { slots = no_slots }; due = Bad }
-row_due (some p) = record { row = record { slots = p.0 }; due = Next p.1 }
+abbrev pub row_due : Option (List ℕ × Cursor) → Option (Row × Cursor)
+row_due o = mapped (λ p. (as_row p.0, p.1)) o

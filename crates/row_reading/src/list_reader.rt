@@ -1,22 +1,23 @@
 // Reading numbers "with commas between": no more are wanted than there are columns.
 ghost use Rattle.std.specs.Prelude.{◌≡◌, [], ◌≤◌, ◌<◌, length, drop, get_or};
+ghost use Rattle.laws.specs.Options.{mapped};
 ghost use Rattle.relation.specs.Rows.{columns};
 ghost use Rattle.text.specs.Numbers.{numbers};
 ghost use Rattle.text.specs.Readings.{numbers_behind};
-ghost use Rattle.row_reading.specs.NumberArrays.{numbers_of, with_number, or_empty, few};
+ghost use Rattle.row_reading.specs.NumberArrays.{numbers_of, with_number, few};
 
 use relation::COLUMNS;
 use text::line_reader::{find, starts};
-use text::number_reader::{ReadNumber, read_number};
+use text::number_reader::read_number;
 
-// The first numbers of the array; none where nothing was read.
+// The first numbers of the array.
 #[derive(Clone, Copy)]
 pub struct Numbers {
     pub count: usize,
     pub values: [u32; COLUMNS],
 }
 
-pub fn no_numbers() -> Numbers
+fn no_numbers() -> Numbers
     ensures { result ≡ numbers_of [] }
 {
     Numbers {
@@ -36,49 +37,40 @@ fn with_number(numbers: Numbers, n: u32) -> Numbers
     more
 }
 
-fn wide(n: u32) -> usize
-    ensures { result ≡ n }
-{
-    n as usize
-}
-
 // The number at an index.
 pub fn number_at(numbers: Numbers, k: usize) -> usize
     requires { k < columns }
     ensures { result ≡ get_or numbers.values k 0 }
 {
-    wide(numbers.values[k])
+    numbers.values[k] as usize
 }
 
 // Numbers with commas between from a position of a line on; none where they are off the form or more than there are columns.
-fn read_numbers(line: &[u8], from: usize) -> Numbers
+fn read_numbers(line: &[u8], from: usize) -> Option<Numbers>
     requires { from ≤ length line.now }
-    ensures { result ≡ numbers_of (or_empty (few columns (numbers (drop from line.now)))) }
+    ensures { result ≡ mapped numbers_of (few columns (numbers (drop from line.now))) }
 {
     let mut found = no_numbers();
     let mut at = from;
     while found.count < COLUMNS {
         let end = find(line, at, b',');
-        let ReadNumber::Value(n) = read_number(&line[at..end]) else {
-            return no_numbers();
-        };
+        let n = read_number(&line[at..end])?;
         found = with_number(found, n);
         if line.len() <= end {
-            return found;
+            return Some(found);
         }
         at = end + 1;
     }
-    no_numbers()
+    None
 }
 
 // The numbers behind a key.
-pub fn read_list(line: &[u8], key: &[u8]) -> Numbers
-    ensures { result ≡ numbers_of (or_empty (few columns (numbers_behind key.now line.now))) }
+pub fn read_list(line: &[u8], key: &[u8]) -> Option<Numbers>
+    ensures { result ≡ mapped numbers_of (few columns (numbers_behind key.now line.now)) }
 {
     if starts(line, key) {
-        let at = key.len();
-        read_numbers(line, at)
+        read_numbers(line, key.len())
     } else {
-        no_numbers()
+        None
     }
 }

@@ -1,12 +1,10 @@
 pub mod Zeros
 pub mod Answers
-pub mod Began
 pub mod Registers
 pub mod Accepted
 pub mod HandedOn
 pub mod Meaning
 pub mod Promised
-pub mod Outset
 pub mod PartAnswers
 pub mod PartBegan
 pub mod PartOutset

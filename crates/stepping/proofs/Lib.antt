@@ -1,5 +1,4 @@
 pub mod Ascends
 pub mod Outcomes
 pub mod Runs
-pub mod RunLines
 pub mod LinesOn

@@ -22,21 +22,20 @@
 mod plan_text; // plan_text.rt: the text of a plan
 mod printing; // printing.rt: what both print
 
-ghost use Rattle.std.specs.Prelude.{◌≡◌, ◌≤◌, length, take};
-
 use compiling::compile;
-use database::{Database, Refusal, TABLE_ROWS, Verdict};
+use database::{Database, Refusal, TABLE_ROWS};
+use files::read_file;
 use loading::read_database;
 use plan_text::print_plan;
 use printing::{print_query, print_refusal};
 use query::{NODES, Query};
 use reading::{read_query, read_step};
 use relation::COLUMNS;
+use rewrite::Unchanged;
 use rewriting::rewrite;
-use std::io::Read;
+use std::io;
 use std::rt::Files;
-use std::{fs, io};
-use text::ReadStep;
+use text::Step;
 use text::line_reader::find;
 
 // As many entries as one table can have.
@@ -45,62 +44,30 @@ const STORE: usize = COLUMNS * TABLE_ROWS;
 // Room for each of the three texts.
 const ROOM: usize = 65_536;
 
-// How many bytes were read until the slice is full, the file ends or a read fails.
-fn read_full(file: &mut impl Read, bytes: &mut [u8]) -> usize
-    ensures bound { result ≤ length bytes.new }
-    ensures part { result ≡ length (take result bytes.new) }
-{
-    let mut done = 0;
-    while done < bytes.len() {
-        let n = file.read(&mut bytes[done..]).unwrap_or(0);
-        if n == 0 {
-            break;
-        }
-        done += n;
-    }
-    done
-}
-
-// How many bytes of a file were read; none where it is missing.
-fn read_file(rt: &impl Files, name: &str, text: &mut [u8]) -> usize
-    ensures bound { result ≤ length text.new }
-    ensures part { result ≡ length (take result text.new) }
-{
-    match fs::open(rt, name) {
-        Ok(mut file) => read_full(&mut file, text),
-        Err(_) => 0,
-    }
-}
-
 // A refused step: the refusal, and the sheet that comes back.
-fn refused_step(rt: &impl Print, query: Query, refusal: Refusal) -> io::Result<Query> {
-    print_refusal(rt, refusal)?;
-    print_query(rt, query)?;
-    Ok(query)
+fn refused_step(rt: &impl Print, unchanged: Unchanged) -> io::Result<Query> {
+    print_refusal(rt, unchanged.refusal)?;
+    print_query(rt, unchanged.query)?;
+    Ok(unchanged.query)
 }
 
-// The sheet that comes back from a step.
-fn apply_step(
-    rt: &impl Print,
+// The sheet that a steps line leaves, or the one that comes back.
+fn step_line(
     query: Query,
     database: Database,
     store: &[u32],
-    kind: u32,
-    node: u32,
-) -> io::Result<Query> {
-    let reply = rewrite(query, database, store, NODES, kind, node);
-    let next = reply.query;
-    let verdict = reply.verdict;
-    match verdict {
-        Verdict::Refused(refusal) => refused_step(rt, next, refusal),
-        Verdict::Accepted => {
-            print_query(rt, next)?;
-            Ok(next)
-        }
-    }
+    line: &[u8],
+) -> Result<Query, Unchanged> {
+    let Some(Step { kind, node }) = read_step(line) else {
+        return Err(Unchanged {
+            query,
+            refusal: Refusal::NoMatch,
+        });
+    };
+    rewrite(query, database, store, NODES, kind, node)
 }
 
-// The same for a line of the steps file.
+// The same, printed.
 fn apply_line(
     rt: &impl Print,
     query: Query,
@@ -108,9 +75,12 @@ fn apply_line(
     store: &[u32],
     line: &[u8],
 ) -> io::Result<Query> {
-    match read_step(line) {
-        ReadStep::Step { kind, node } => apply_step(rt, query, database, store, kind, node),
-        ReadStep::Bad => refused_step(rt, query, Refusal::NoMatch),
+    match step_line(query, database, store, line) {
+        Ok(next) => {
+            print_query(rt, next)?;
+            Ok(next)
+        }
+        Err(unchanged) => refused_step(rt, unchanged),
     }
 }
 
@@ -123,11 +93,18 @@ fn apply_lines(
     steps: &[u8],
 ) -> io::Result<Query> {
     let mut held = query;
-    let mut at: usize = 0;
+    let mut at = 0;
     while at < steps.len() {
         let end = find(steps, at, b'\n');
         if steps.len() <= end {
-            return refused_step(rt, held, Refusal::NoMatch);
+            let refusal = Refusal::NoMatch;
+            return refused_step(
+                rt,
+                Unchanged {
+                    query: held,
+                    refusal,
+                },
+            );
         }
         held = apply_line(rt, held, database, store, &steps[at..end])?;
         at = end + 1;
@@ -136,12 +113,9 @@ fn apply_lines(
 }
 
 fn show_plan(rt: &impl Print, query: Query, database: Database, store: &[u32]) -> io::Result<()> {
-    let reply = compile(query, database, store, NODES);
-    let plan = reply.plan;
-    let verdict = reply.verdict;
-    match verdict {
-        Verdict::Refused(refusal) => print_refusal(rt, refusal),
-        Verdict::Accepted => print_plan(rt, plan),
+    match compile(query, database, store, NODES) {
+        Ok(plan) => print_plan(rt, plan),
+        Err(refusal) => print_refusal(rt, refusal),
     }
 }
 
@@ -160,12 +134,9 @@ fn show_steps(
 fn show_query(rt: &(impl Files + Print), database: Database, store: &[u32]) -> io::Result<()> {
     let mut text = [0u8; ROOM];
     let n = read_file(rt, "query.txt", &mut text);
-    let read = read_query(&text[..n], NODES);
-    let query = read.query;
-    let verdict = read.verdict;
-    match verdict {
-        Verdict::Refused(refusal) => print_refusal(rt, refusal),
-        Verdict::Accepted => show_steps(rt, query, database, store),
+    match read_query(&text[..n], NODES) {
+        Ok(query) => show_steps(rt, query, database, store),
+        Err(refusal) => print_refusal(rt, refusal),
     }
 }
 
@@ -173,11 +144,8 @@ fn main(rt: HostRuntime) -> io::Result<()> {
     let mut text = [0u8; ROOM];
     let mut store = [0u32; STORE];
     let n = read_file(&rt, "database.txt", &mut text);
-    let read = read_database(&text[..n], &mut store);
-    let database = read.database;
-    let verdict = read.verdict;
-    match verdict {
-        Verdict::Refused(refusal) => print_refusal(&rt, refusal),
-        Verdict::Accepted => show_query(&rt, database, &store),
+    match read_database(&text[..n], &mut store) {
+        Ok(database) => show_query(&rt, database, &store),
+        Err(refusal) => print_refusal(&rt, refusal),
     }
 }

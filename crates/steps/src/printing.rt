@@ -1,6 +1,5 @@
-// Printing bytes, numbers, refusals and sheets.
+// Printing refusals and sheets.
 use database::Refusal;
-use output::Written;
 use query::Query;
 use query_writing::write_query;
 use std::io;
@@ -9,26 +8,11 @@ use writing::write_refusal;
 // Room for a refusal or a sheet.
 const ROOM: usize = 4096;
 
-pub(crate) fn print(rt: &impl Print, text: &[u8]) -> io::Result<()> {
-    rt.write_all(text)
-}
-
-// A name and the number behind it.
-pub(crate) fn print_number(rt: &impl Print, name: &str, n: usize) -> io::Result<()> {
-    print!(rt; "{name}{n}")
-}
-
-fn print_part(rt: &impl Print, text: &[u8], n: usize) -> io::Result<()> {
-    if text.len() < n {
-        return Ok(());
-    }
-    print(rt, &text[0..n])
-}
-
-fn print_written(rt: &impl Print, written: Written, text: &[u8]) -> io::Result<()> {
+fn print_written(rt: &impl Print, written: Result<usize, Refusal>, text: &[u8]) -> io::Result<()> {
     match written {
-        Written::Bytes(n) => print_part(rt, text, n),
-        Written::Short => print(rt, b"short\n"),
+        Ok(n) if n <= text.len() => rt.write_all(&text[..n]),
+        Ok(_) => Ok(()),
+        Err(_) => println!(rt; "short"),
     }
 }
 

@@ -1,6 +1,6 @@
 -- Readers whose lines can be gone on from: the lines before a bad one are also the first lines of a text without a bad line.
 use mathlib.Core.Path.{◌≡◌, refl, ap, sym, ◌∙◌}
-use mathlib.Core.Option.{Option, some}
+use Rattle.std.specs.Prelude.{Option, Some}
 use mathlib.Core.List.{List, [], ◌++◌}
 use Prim.Native.Nat.{ℕ, zero, suc, ◌+◌}
 use native.Mathlib.Omega.{arith}
@@ -37,9 +37,9 @@ module _ (bad : ℕ → Refusal) (B : Type 0) where
 
 module _ (bad : ℕ → Refusal) (B : Type 0) (named : (n : ℕ) → place_of (bad n) ≡ n) where
   -- a due line of which there is one on the form
-  module _ {A : Type 0} (form : List ℕ → Option A) (l₀ : List ℕ) (a₀ : A) (unbroken : Without newline l₀) (on_form_lem : form l₀ ≡ some a₀)
+  module _ {A : Type 0} (form : List ℕ → Option A) (l₀ : List ℕ) (a₀ : A) (unbroken : Without newline l₀) (on_form_lem : form l₀ ≡ Some a₀)
       (next : A → Rest → Reply B) (x : (a : A) → Completes bad B (next a)) where
-    due_fine : (m : ℕ) (l r : List ℕ) (a : A) → Without newline l → form l ≡ some a → Fine bad B (next a) (m + 1) r
+    due_fine : (m : ℕ) (l r : List ℕ) (a : A) → Without newline l → form l ≡ Some a → Fine bad B (next a) (m + 1) r
         → Fine bad B (followed (due bad form) next) m (line_text l ++ r)
     due_fine m l r a u f fine k e = fine k (rw (due_on bad form (from m (line_text l ++ r)) l r a (first_line_lem l r u) f) at e)
 

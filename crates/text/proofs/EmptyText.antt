@@ -1,6 +1,6 @@
 -- A database's text is read by its lines, unless it is empty: then it is read as no tables.
 use mathlib.Core.Path.{◌≡◌, refl, ap, sym, ◌∙◌, subst}
-use mathlib.Core.Option.{some, none}
+use Rattle.std.specs.Prelude.{Some, None}
 use mathlib.Core.List.{List, [], ◌∷◌, flat_map}
 use mathlib.Core.Logic.{◌⊎◌, inl, inr, ◌≢◌}
 use Prim.Native.Nat.{ℕ, ◌≤◌, zero-le}
@@ -32,7 +32,7 @@ others_read w [] h = absurd (h refl)
 others_read w (b ∷ rest) h = refl
 
 -- no first line, or an empty one, is no header
-pub no_header : (w : ℕ) (text : List ℕ) → (first_line text ≡ none) ⊎ (first_line text ≡ some ([], [])) → read_tables w text ≡ refused (DatabaseForm 1)
+pub no_header : (w : ℕ) (text : List ℕ) → (first_line text ≡ None) ⊎ (first_line text ≡ Some ([], [])) → read_tables w text ≡ refused (DatabaseForm 1)
 unfolding bytes after by_form read_tables due
 no_header w text (inl e) = rw (e, due)
 no_header w text (inr e) = rw (e, due)

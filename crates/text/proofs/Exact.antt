@@ -1,7 +1,7 @@
 -- What is read exactly: a reader accepts the texts that a printer prints for the values of some kind, and no others.
 use mathlib.Core.Path.{◌≡◌, refl, ap, sym, ◌∙◌, subst}
 use mathlib.Core.Bool.{true}
-use mathlib.Core.Option.{Option, some, none}
+use Rattle.std.specs.Prelude.{Option, Some, None}
 use mathlib.Core.List.{List, [], ◌∷◌, ◌++◌, flat_map, append_assoc, append-nil}
 use Prim.Native.Nat.{ℕ, zero, suc, ◌+◌}
 use native.Mathlib.Omega.{arith}
@@ -25,9 +25,9 @@ from k text = record { line = k; bytes = text }
 module _ {A : Type 0} where
   -- lines without their byte 10
   pub record ExactLine (form : List ℕ → Option A) (text : A → List ℕ) (Good : A → Type 0) : Type 0 where
-    pub reads : (a : A) → Good a → form (text a) ≡ some a
+    pub reads : (a : A) → Good a → form (text a) ≡ Some a
     pub unbroken : (a : A) → Good a → Without newline (text a)
-    pub printed : (l : List ℕ) (a : A) → form l ≡ some a → (text a ≡ l) × Good a
+    pub printed : (l : List ℕ) (a : A) → form l ≡ Some a → (text a ≡ l) × Good a
 
   -- parts of a text, of whole lines
   pub record Exact (part : Rest → Reply (A × Rest)) (text : A → List ℕ) (Good : A → Type 0) : Type 0 where
@@ -35,24 +35,24 @@ module _ {A : Type 0} where
     pub printed : (s t : Rest) (a : A) → part s ≡ accepted (a, t) → (s.bytes ≡ text a ++ t.bytes) × Good a
 
   pub due_accepted : (bad : ℕ → Refusal) (form : List ℕ → Option A) (s t : Rest) (a : A) → due bad form s ≡ accepted (a, t)
-      → (l : List ℕ) × (s.bytes ≡ line_text l ++ t.bytes) × (form l ≡ some a)
+      → (l : List ℕ) × (s.bytes ≡ line_text l ++ t.bytes) × (form l ≡ Some a)
   unfolding due
   due_accepted bad form s t a e = by_line (first_line s.bytes) refl e
     where
       by_form_lem : (l rest : List ℕ) (o : Option A) → form l ≡ o
-          → ◌≡◌ {A = Reply (A × Rest)} (elim o [ none ↦ refused (bad s.line) | some a ↦ accepted (a, from (s.line + 1) rest) ]) (accepted (a, t))
-          → (form l ≡ some a) × (rest ≡ t.bytes)
-      by_form_lem l rest none q e = accepted_refused (sym e)
-      by_form_lem l rest (some b) q e = let p = accepted_same e in (q ∙ ap (λ r. some r.0) p, ap (λ r. r.1.bytes) p)
+          → ◌≡◌ {A = Reply (A × Rest)} (elim o [ None ↦ refused (bad s.line) | Some a ↦ accepted (a, from (s.line + 1) rest) ]) (accepted (a, t))
+          → (form l ≡ Some a) × (rest ≡ t.bytes)
+      by_form_lem l rest None q e = accepted_refused (sym e)
+      by_form_lem l rest (Some b) q e = let p = accepted_same e in (q ∙ ap (λ r. Some r.0) p, ap (λ r. r.1.bytes) p)
 
       by_line : (o : Option (List ℕ × List ℕ)) → first_line s.bytes ≡ o
           → ◌≡◌ {A = Reply (A × Rest)} (elim o [
-            | none ↦ refused (bad s.line)
-            | some p ↦ elim (form p.0) [ none ↦ refused (bad s.line) | some a ↦ accepted (a, from (s.line + 1) p.1) ]
+            | None ↦ refused (bad s.line)
+            | Some p ↦ elim (form p.0) [ None ↦ refused (bad s.line) | Some a ↦ accepted (a, from (s.line + 1) p.1) ]
           ]) (accepted (a, t))
-          → (l : List ℕ) × (s.bytes ≡ line_text l ++ t.bytes) × (form l ≡ some a)
-      by_line none q e = accepted_refused (sym e)
-      by_line (some p) q e =
+          → (l : List ℕ) × (s.bytes ≡ line_text l ++ t.bytes) × (form l ≡ Some a)
+      by_line None q e = accepted_refused (sym e)
+      by_line (Some p) q e =
           let (f, r) = by_form_lem p.0 p.1 (form p.0) refl e in
           (p.0, (line_first s.bytes p q).0 ∙ ap (λ rest. line_text p.0 ++ rest) r, f)
 

@@ -1,6 +1,6 @@
 -- What it is that a line is the first bad one of a text.
 use mathlib.Core.Path.{◌≡◌}
-use mathlib.Core.Option.{some, none}
+use Rattle.std.specs.Prelude.{Some, None}
 use mathlib.Core.List.{List, [], ◌++◌}
 use Prim.Native.Nat.{ℕ, zero, suc, ◌+◌, ◌-◌, ◌≤◌, ◌<◌}
 use Rattle.laws.proofs.Lists.{count}
@@ -13,7 +13,7 @@ use Rattle.text.specs.Texts.{line_text}
 -- the first k lines of a text, each with its byte 10; all of a text that has fewer
 unfoldable pub first_lines : ℕ → List ℕ → List ℕ
 first_lines zero text = []
-first_lines (suc k) text = elim (first_line text) [ none ↦ text | some p ↦ line_text p.0 ++ first_lines k p.1 ]
+first_lines (suc k) text = elim (first_line text) [ None ↦ text | Some p ↦ line_text p.0 ++ first_lines k p.1 ]
 
 -- line k is the first bad one of a text: the lines before it are there, no text with the same lines before it is refused at one of them, and
 -- every text with the same lines up to it is refused at it

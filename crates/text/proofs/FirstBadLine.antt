@@ -1,7 +1,7 @@
 -- "Of a text, number 1 names the first bad line, a missing one being the line after the last", and so does 11.
 use mathlib.Core.Path.{◌≡◌, refl, ap, sym, ◌∙◌, subst}
 use mathlib.Core.Bool.{Bool, true, false, ◌&&◌}
-use mathlib.Core.Option.{Option, none}
+use Rattle.std.specs.Prelude.{Option, None}
 use mathlib.Core.List.{List}
 use Prim.Native.Nat.{ℕ, suc, ◌-◌}
 use native.Mathlib.Omega.{arith}
@@ -46,7 +46,7 @@ unfolding read_table
 table_linewise w =
     carries_then R (line (cols_line w)) λ cs.
     carries_then R (line (count_line "rows=" rows_limit)) λ n.
-    carries_then R (carries_again R (rows_again w cs) (λ above. line (row_line w cs above)) n none) λ rows.
+    carries_then R (carries_again R (rows_again w cs) (λ above. line (row_line w cs above)) n None) λ rows.
     carries_end R (record { columns = cs; rows = rows })
   where
     R : (Rest → Reply (List Table)) → (Rest → Reply (List Table)) → Type 0

@@ -1,7 +1,7 @@
 -- Texts whose first lines are the same.
 use mathlib.Core.Path.{◌≡◌, refl, ap, sym, ◌∙◌}
 use mathlib.Core.Bool.{false}
-use mathlib.Core.Option.{Option, some, none}
+use Rattle.std.specs.Prelude.{Option, Some, None}
 use mathlib.Core.List.{List, [], ◌∷◌, ◌++◌}
 use Prim.Native.Nat.{ℕ, zero, suc, ◌+◌, ◌≤◌}
 use native.Mathlib.Nat.{not-suc-le-zero, le_of_suc-le-suc}
@@ -17,39 +17,39 @@ use Rattle.text.proofs.FirstLine.{first_line_lem, line_first}
 
 -- two texts whose first lines are the same both have no whole line, or the same first one
 pub data SameFirst (k : ℕ) (s t : List ℕ) : Type 0 where
-  no_line : first_line s ≡ none → first_line t ≡ none → SameFirst k s t
-  same_line : (l r q : List ℕ) → first_line s ≡ some (l, r) → first_line t ≡ some (l, q) → first_lines k r ≡ first_lines k q → SameFirst k s t
+  no_line : first_line s ≡ None → first_line t ≡ None → SameFirst k s t
+  same_line : (l r q : List ℕ) → first_line s ≡ Some (l, r) → first_line t ≡ Some (l, q) → first_lines k r ≡ first_lines k q → SameFirst k s t
 
-lines_none : (k : ℕ) (s : List ℕ) → first_line s ≡ none → first_lines (suc k) s ≡ s
+lines_none : (k : ℕ) (s : List ℕ) → first_line s ≡ None → first_lines (suc k) s ≡ s
 unfolding first_lines
 lines_none k s e = rw (e, first_lines)
 
-pub lines_some : (k : ℕ) (s l r : List ℕ) → first_line s ≡ some (l, r) → first_lines (suc k) s ≡ line_text l ++ first_lines k r
+pub lines_some : (k : ℕ) (s l r : List ℕ) → first_line s ≡ Some (l, r) → first_lines (suc k) s ≡ line_text l ++ first_lines k r
 unfolding first_lines
 lines_some k s l r e = rw (e, first_lines)
 
 abbrev shortened : ℕ → Option (List ℕ × List ℕ) → Option (List ℕ × List ℕ)
-shortened k none = none
-shortened k (some p) = some (p.0, first_lines k p.1)
+shortened k None = None
+shortened k (Some p) = Some (p.0, first_lines k p.1)
 
 -- a text's first line is that of its first lines
 first_again : (k : ℕ) (s : List ℕ) → first_line (first_lines (suc k) s) ≡ shortened k (first_line s)
 first_again k s = by_line (first_line s) refl
   where
     by_line : (o : Option (List ℕ × List ℕ)) → first_line s ≡ o → first_line (first_lines (suc k) s) ≡ shortened k o
-    by_line none e = rw (lines_none k s e) e
-    by_line (some p) e = rw (lines_some k s p.0 p.1 e) (first_line_lem p.0 (first_lines k p.1) (line_first s p e).1)
+    by_line None e = rw (lines_none k s e) e
+    by_line (Some p) e = rw (lines_some k s p.0 p.1 e) (first_line_lem p.0 (first_lines k p.1) (line_first s p e).1)
 
 pub same_first : (k : ℕ) (s t : List ℕ) → first_lines (suc k) s ≡ first_lines (suc k) t → SameFirst k s t
 same_first k s t e = by_lines (first_line s) (first_line t) refl refl (sym (first_again k s) ∙ ap first_line e ∙ first_again k t)
   where
     by_lines : (o p : Option (List ℕ × List ℕ)) → first_line s ≡ o → first_line t ≡ p → shortened k o ≡ shortened k p → SameFirst k s t
-    by_lines none none f g e = no_line f g
-    by_lines none (some p) f g e = none_some e
-    by_lines (some o) none f g e = none_some (sym e)
-    by_lines (some o) (some p) f g e =
+    by_lines None None f g e = no_line f g
+    by_lines None (Some p) f g e = none_some e
+    by_lines (Some o) None f g e = none_some (sym e)
+    by_lines (Some o) (Some p) f g e =
         let q = some_inj e in
-        same_line o.0 o.1 p.1 f (g ∙ ap (λ l. some (l, p.1)) (sym (ap (λ x. x.0) q))) (ap (λ x. x.1) q)
+        same_line o.0 o.1 p.1 f (g ∙ ap (λ l. Some (l, p.1)) (sym (ap (λ x. x.0) q))) (ap (λ x. x.1) q)
 
 -- only the empty text has the first lines of the empty text
 pub no_lines : (k : ℕ) (s : List ℕ) → first_lines (suc k) s ≡ first_lines (suc k) [] → s ≡ []
@@ -81,13 +81,13 @@ pub first_null : (k : ℕ) (s : List ℕ) → null (first_lines (suc k) s) ≡ n
 first_null k s = by_line (first_line s) refl
   where
     by_line : (o : Option (List ℕ × List ℕ)) → first_line s ≡ o → null (first_lines (suc k) s) ≡ null s
-    by_line none e = ap null (lines_none k s e)
-    by_line (some p) e =
+    by_line None e = ap null (lines_none k s e)
+    by_line (Some p) e =
         ap null (lines_some k s p.0 p.1 e) ∙ line_filled p.0 (first_lines k p.1)
         ∙ sym (ap null (line_first s p e).0 ∙ line_filled p.0 p.1)
 
 -- a line is one of the text's, and the others are those of the rest
-pub lines_count : (s l r : List ℕ) → first_line s ≡ some (l, r) → count newline r + 1 ≤ count newline s
+pub lines_count : (s l r : List ℕ) → first_line s ≡ Some (l, r) → count newline r + 1 ≤ count newline s
 lines_count s l r e =
     rw (line_first s (l, r) e).0
     (let a = count_append newline (line_text l) r in

@@ -1,7 +1,7 @@
 -- Readers that go line by line: where one refuses depends on the lines up to there only.
 use mathlib.Core.Path.{◌≡◌, refl, ap, sym, ◌∙◌}
 use mathlib.Core.Bool.{Bool, true, false}
-use mathlib.Core.Option.{Option, some, none}
+use Rattle.std.specs.Prelude.{Option, Some, None}
 use mathlib.Core.List.{List}
 use Prim.Native.Nat.{ℕ, zero, suc, ◌+◌, ◌≤◌}
 use native.Mathlib.Omega.{arith}
@@ -30,33 +30,33 @@ module _ (bad : ℕ → Refusal) (B : Type 0) where
 
 -- how a due line is read: there is none, or it is off the form, or it is on the form
 module _ (bad : ℕ → Refusal) {A : Type 0} (form : List ℕ → Option A) (s : Rest) where
-  due_gone : first_line s.bytes ≡ none → due bad form s ≡ refused (bad s.line)
+  due_gone : first_line s.bytes ≡ None → due bad form s ≡ refused (bad s.line)
   unfolding due
   due_gone e = rw (e, due)
 
-  due_off : (l r : List ℕ) → first_line s.bytes ≡ some (l, r) → form l ≡ none → due bad form s ≡ refused (bad s.line)
+  due_off : (l r : List ℕ) → first_line s.bytes ≡ Some (l, r) → form l ≡ None → due bad form s ≡ refused (bad s.line)
   unfolding due
   due_off l r e f = rw (e, due) (rw f)
 
-  pub due_on : (l r : List ℕ) (a : A) → first_line s.bytes ≡ some (l, r) → form l ≡ some a → due bad form s ≡ accepted (a, from (s.line + 1) r)
+  pub due_on : (l r : List ℕ) (a : A) → first_line s.bytes ≡ Some (l, r) → form l ≡ Some a → due bad form s ≡ accepted (a, from (s.line + 1) r)
   unfolding due
   due_on l r a e f = rw (e, due) (rw f)
 
   pub data Due : Type 0 where
     is_bad : due bad form s ≡ refused (bad s.line) → Due
-    is_good : (l r : List ℕ) (a : A) → first_line s.bytes ≡ some (l, r) → form l ≡ some a
+    is_good : (l r : List ℕ) (a : A) → first_line s.bytes ≡ Some (l, r) → form l ≡ Some a
         → due bad form s ≡ accepted (a, from (s.line + 1) r) → Due
 
   pub due? : Due
   due? = by_line (first_line s.bytes) refl
     where
-      by_form_lem : (l r : List ℕ) → first_line s.bytes ≡ some (l, r) → (o : Option A) → form l ≡ o → Due
-      by_form_lem l r f none g = is_bad (due_off l r f g)
-      by_form_lem l r f (some a) g = is_good l r a f g (due_on l r a f g)
+      by_form_lem : (l r : List ℕ) → first_line s.bytes ≡ Some (l, r) → (o : Option A) → form l ≡ o → Due
+      by_form_lem l r f None g = is_bad (due_off l r f g)
+      by_form_lem l r f (Some a) g = is_good l r a f g (due_on l r a f g)
 
       by_line : (o : Option (List ℕ × List ℕ)) → first_line s.bytes ≡ o → Due
-      by_line none f = is_bad (due_gone f)
-      by_line (some p) f = by_form_lem p.0 p.1 f (form p.0) refl
+      by_line None f = is_bad (due_gone f)
+      by_line (Some p) f = by_form_lem p.0 p.1 f (form p.0) refl
 
 module _ (bad : ℕ → Refusal) (B : Type 0) (named : (n : ℕ) → place_of (bad n) ≡ n) where
   pub one_place : (m n : ℕ) → ◌≡◌ {A = Reply B} (refused (bad m)) (refused (bad n)) → m ≡ n
@@ -86,10 +86,10 @@ module _ (bad : ℕ → Refusal) (B : Type 0) (named : (n : ℕ) → place_of (b
         later zero h r q a p e = let (low, _) = (x a).reached (from (s.line + 1) r) k e in let z : ⊥ = omega arith in absurd z
         later (suc i) h r q a p e = (x a).same (from (s.line + 1) r) (from (t.line + 1) q) i k (omega arith) (omega arith) p e
 
-        by_form_lem : (l r q : List ℕ) → first_line s.bytes ≡ some (l, r) → first_line t.bytes ≡ some (l, q) → first_lines i r ≡ first_lines i q
+        by_form_lem : (l r q : List ℕ) → first_line s.bytes ≡ Some (l, r) → first_line t.bytes ≡ Some (l, q) → first_lines i r ≡ first_lines i q
             → (o : Option A) → form l ≡ o → followed (due bad form) next' t ≡ refused (bad k)
-        by_form_lem l r q f f' p none g = at_once (due_off bad form s l r f g) (due_off bad form t l q f' g)
-        by_form_lem l r q f f' p (some a) g = rw (due_on bad form t l q a f' g) (later i h r q a p (rw (due_on bad form s l r a f g) at e))
+        by_form_lem l r q f f' p None g = at_once (due_off bad form s l r f g) (due_off bad form t l q f' g)
+        by_form_lem l r q f f' p (Some a) g = rw (due_on bad form t l q a f' g) (later i h r q a p (rw (due_on bad form s l r a f g) at e))
 
         by_first : SameFirst i s.bytes t.bytes → followed (due bad form) next' t ≡ refused (bad k)
         by_first (no_line f g) = at_once (due_gone bad form s f) (due_gone bad form t g)

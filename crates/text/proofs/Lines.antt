@@ -1,7 +1,7 @@
 -- The lines of a query's text are read exactly.
 use mathlib.Core.Path.{◌≡◌, refl, sym, ◌∙◌, subst}
 use mathlib.Core.Bool.{true, ◌&&◌}
-use mathlib.Core.Option.{some}
+use Rattle.std.specs.Prelude.{Some}
 use mathlib.Core.List.{List, [], ◌∷◌, ◌++◌, append-nil}
 use Prim.Native.Nat.{ℕ, ◌≤◌}
 use Prim.Native.String.{String}
@@ -41,7 +41,7 @@ header_exact = record {
   printed = λ l _ e. let p = form_printed (word "guide=1" tt) tt l e in (alone l p.ns p.value p.line, tt);
 }
   where
-    alone : (l ns : List ℕ) → value_of {A = Unit {0}} (word "guide=1" tt) ns ≡ some tt → bytes "guide=1" ++ comma_digits ns ≡ l → bytes "guide=1" ≡ l
+    alone : (l ns : List ℕ) → value_of {A = Unit {0}} (word "guide=1" tt) ns ≡ Some tt → bytes "guide=1" ++ comma_digits ns ≡ l → bytes "guide=1" ≡ l
     alone l [] v e = sym (append-nil (bytes "guide=1")) ∙ e
     alone l (n ∷ ns) v e = none_some v
 
@@ -62,7 +62,7 @@ count_exact key most p = record {
       (line, (leb-true n most low, small));
 }
   where
-    single : (l : List ℕ) (n : ℕ) (ns : List ℕ) → AllSmall ns → value_of (one key (λ n. n)) ns ≡ some n → bytes key ++ comma_digits ns ≡ l
+    single : (l : List ℕ) (n : ℕ) (ns : List ℕ) → AllSmall ns → value_of (one key (λ n. n)) ns ≡ Some n → bytes key ++ comma_digits ns ≡ l
         → (bytes key ++ digits n ≡ l) × (n ≤ max_number)
     single l n [] s v e = none_some v
     single l n (m ∷ []) (s, _) v e = subst (λ n. (bytes key ++ digits n ≡ l) × (n ≤ max_number)) (some_inj v) (e, s)

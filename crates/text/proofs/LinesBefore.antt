@@ -1,7 +1,7 @@
 -- The lines before the first bad line of a query's text are also the first lines of a text without a bad line: so the first bad line is
 -- the first that no text on the form has after those before it. Of a database's text this doesn't hold: no row follows the highest one.
 use mathlib.Core.Path.{◌≡◌, refl}
-use mathlib.Core.Option.{Option}
+use Rattle.std.specs.Prelude.{Option}
 use mathlib.Core.List.{List}
 use Prim.Native.Nat.{ℕ, ◌-◌}
 use native.Mathlib.Omega.{arith}

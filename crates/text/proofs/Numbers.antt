@@ -1,7 +1,7 @@
 -- Numbers as texts: what the printer prints is what the reader accepts.
 use mathlib.Core.Path.{◌≡◌, ap, sym, ◌∙◌, subst}
 use mathlib.Core.Bool.{Bool, true, false, not, ◌&&◌}
-use mathlib.Core.Option.{some}
+use Rattle.std.specs.Prelude.{Some}
 use mathlib.Core.List.{List, []}
 use Prim.Native.Nat.{ℕ, suc, ◌≤◌}
 use native.Mathlib.Omega.{arith}
@@ -19,7 +19,7 @@ abbrev on_number_form : List ℕ → Bool
 on_number_form l = not (null l) && every is_digit l && not (is_zero l) && leb (value_from 0 l) max_number
 
 -- what is printed for a number is read as that number
-pub number_digits_lem : (n : ℕ) → n ≤ max_number → number (digits n) ≡ some n
+pub number_digits_lem : (n : ℕ) → n ≤ max_number → number (digits n) ≡ Some n
 unfolding number value_from
 number_digits_lem n h =
     let value = digits_value (suc n) n [] (omega arith) in
@@ -27,10 +27,10 @@ number_digits_lem n h =
     let filled = ap not (digits_null (suc n) n [] (omega arith)) in
     let front = and_true _ _ (and_true _ _ filled (digits_digits n)) (ap not (no_leading_zero n)) in
     let on_form_lem : on_number_form (digits n) ≡ true = and_true _ _ front small in
-    rw on_form_lem (ap some value)
+    rw on_form_lem (ap Some value)
 
 -- what is read as a number is printed for that number
-pub digits_number : (l : List ℕ) (n : ℕ) → number l ≡ some n → (digits n ≡ l) × (n ≤ max_number)
+pub digits_number : (l : List ℕ) (n : ℕ) → number l ≡ Some n → (digits n ≡ l) × (n ≤ max_number)
 unfolding number
 digits_number l n e =
     let (on_form_lem, value) = kept (on_number_form l) e in

@@ -1,7 +1,7 @@
 -- Words, and numbers behind a key.
 use mathlib.Core.Path.{◌≡◌, refl, ap, sym, ◌∙◌}
 use mathlib.Core.Bool.{Bool, true, false, not, ◌&&◌, and-false}
-use mathlib.Core.Option.{Option, some, none}
+use Rattle.std.specs.Prelude.{Option, Some, None}
 use mathlib.Core.Logic.{◌⊎◌, inl, inr}
 use mathlib.Core.List.{List, [], ◌∷◌}
 use Prim.Native.String.{String}
@@ -14,11 +14,9 @@ use Rattle.laws.specs.Lists.{when◌then◌else◌, every, null}
 use Rattle.laws.specs.Options.{mapped, present, ◌then◌}
 use Rattle.laws.proofs.Tests.{same?}
 use Rattle.laws.proofs.Options.{none_some}
-use Rattle.text.specs.declared.number_reader.ReadNumber.TheVariants.{Value, Bad}
-use Rattle.text.specs.declared.line_reader.ReadPair.TheVariants as read-two
 use Rattle.text.specs.Numbers.{bytes, comma, is_digit, is_zero, max_number, value_from, number, parts, read_all, numbers}
 use Rattle.text.specs.Lines.{after, numbers_after, if_empty, if_one, if_two, word, one, two, by_form}
-use Rattle.text.specs.Readings.{before, is_word, paired, number_reply, pair_reply, numbers_behind}
+use Rattle.text.specs.Readings.{before, is_word, paired, numbers_behind}
 use Rattle.text.proofs.ReaderLawsLines.{before_le, tail_has, parts_more, parts_last, found_part, found_rest, found_inside, part_to_end}
 
 -- a word is a key with nothing behind it
@@ -30,7 +28,7 @@ word_same (k ∷ w) [] h = refl
 word_same (k ∷ w) (b ∷ l) h = by_test (eqb k b) (word_same w l (omega arith))
   where
     by_test : (t : Bool) → present (after w l) ≡ is_word w l
-        → present (when t then after w l else none) ≡ present (if_empty (tt {0}) (when t then after w l else none))
+        → present (when t then after w l else None) ≡ present (if_empty (tt {0}) (when t then after w l else None))
     by_test true e = e
     by_test false e = refl
 
@@ -41,7 +39,7 @@ word_other [] (b ∷ l) h = refl
 word_other (k ∷ w) [] h = refl
 word_other (k ∷ w) (b ∷ l) h = by_test (eqb k b) (word_other w l (λ e. h (ap suc e)))
   where
-    by_test : (t : Bool) → is_word w l ≡ false → present (if_empty (tt {0}) (when t then after w l else none)) ≡ false
+    by_test : (t : Bool) → is_word w l ≡ false → present (if_empty (tt {0}) (when t then after w l else None)) ≡ false
     by_test true e = e
     by_test false e = refl
 
@@ -51,10 +49,10 @@ unfolding read_all
 read_more l ls = by_cases (number l) (read_all ls)
   where
     by_cases : (o : Option ℕ) (p : Option (List ℕ))
-        → elim o [ none ↦ none | some n ↦ elim p [ none ↦ none | some ns ↦ some (n ∷ ns) ] ] ≡ (o then (λ n. mapped (λ ns. n ∷ ns) p))
-    by_cases none p = refl
-    by_cases (some n) none = refl
-    by_cases (some n) (some ns) = refl
+        → elim o [ None ↦ None | Some n ↦ elim p [ None ↦ None | Some ns ↦ Some (n ∷ ns) ] ] ≡ (o then (λ n. mapped (λ ns. n ∷ ns) p))
+    by_cases None p = refl
+    by_cases (Some n) None = refl
+    by_cases (Some n) (Some ns) = refl
 
 pub numbers_more : (l : List ℕ) → before comma l < length l
     → numbers l ≡ number (take (before comma l) l) then (λ n. mapped (λ ns. n ∷ ns) (numbers (drop (suc (before comma l)) l)))
@@ -64,9 +62,9 @@ pub numbers_last : (l : List ℕ) → length l ≤ before comma l → numbers l 
 unfolding read_all
 numbers_last l h = ap read_all (parts_last l h) ∙ by_cases (number l)
   where
-    by_cases : (o : Option ℕ) → elim o [ none ↦ none | some n ↦ some (n ∷ []) ] ≡ mapped (λ n. n ∷ []) o
-    by_cases none = refl
-    by_cases (some n) = refl
+    by_cases : (o : Option ℕ) → elim o [ None ↦ None | Some n ↦ Some (n ∷ []) ] ≡ mapped (λ n. n ∷ []) o
+    by_cases None = refl
+    by_cases (Some n) = refl
 
 -- there is a comma, or none
 pub comma? : (l : List ℕ) → (before comma l < length l) ⊎ (length l ≤ before comma l)
@@ -77,20 +75,20 @@ comma? l = by_test (ltb (before comma l) (length l)) refl
     by_test false e = inr (ltb-false _ _ e)
 
 -- a list of numbers is never empty
-pub some_number : (l : List ℕ) → if_empty (tt {0}) (numbers l) ≡ none
+pub some_number : (l : List ℕ) → if_empty (tt {0}) (numbers l) ≡ None
 some_number l = elim (comma? l) [
   | inl h ↦ rw (numbers_more l h) (more (number (take (before comma l) l)) (numbers (drop (suc (before comma l)) l)))
   | inr h ↦ rw (numbers_last l h) (last (number l))
 ]
   where
-    more : (o : Option ℕ) (p : Option (List ℕ)) → if_empty (tt {0}) (o then (λ n. mapped (λ ns. n ∷ ns) p)) ≡ none
-    more none p = refl
-    more (some n) none = refl
-    more (some n) (some ns) = refl
+    more : (o : Option ℕ) (p : Option (List ℕ)) → if_empty (tt {0}) (o then (λ n. mapped (λ ns. n ∷ ns) p)) ≡ None
+    more None p = refl
+    more (Some n) None = refl
+    more (Some n) (Some ns) = refl
 
-    last : (o : Option ℕ) → if_empty (tt {0}) (mapped (λ n. n ∷ []) o) ≡ none
-    last none = refl
-    last (some n) = refl
+    last : (o : Option ℕ) → if_empty (tt {0}) (mapped (λ n. n ∷ []) o) ≡ None
+    last None = refl
+    last (Some n) = refl
 
 -- a comma is no digit
 comma_bad : (l : List ℕ) → before comma l < length l → every is_digit l ≡ false
@@ -101,11 +99,11 @@ comma_bad (c ∷ l) h = elim (same? c comma) [
   | inr s ↦ rw (comma_bad l (tail_has comma c l s.0 h)) (and-false (is_digit c))
 ]
 
-number_comma : (l : List ℕ) → before comma l < length l → number l ≡ none
+number_comma : (l : List ℕ) → before comma l < length l → number l ≡ None
 unfolding number
 number_comma l h = rw (comma_bad l h) (by_test (not (null l)))
   where
-    by_test : (t : Bool) → (when t && false && not (is_zero l) && leb (value_from 0 l) max_number then some (value_from 0 l) else none) ≡ none
+    by_test : (t : Bool) → (when t && false && not (is_zero l) && leb (value_from 0 l) max_number then Some (value_from 0 l) else None) ≡ None
     by_test true = refl
     by_test false = refl
 
@@ -116,22 +114,22 @@ one_number l = elim (comma? l) [
   | inr h ↦ rw (numbers_last l h) (last (number l))
 ]
   where
-    more : (o : Option ℕ) (p : Option (List ℕ)) → if_empty (tt {0}) p ≡ none → if_one (λ n. n) (o then (λ n. mapped (λ ns. n ∷ ns) p)) ≡ none
-    more none p e = refl
-    more (some n) none e = refl
-    more (some n) (some []) e = none_some (sym e)
-    more (some n) (some (m ∷ ns)) e = refl
+    more : (o : Option ℕ) (p : Option (List ℕ)) → if_empty (tt {0}) p ≡ None → if_one (λ n. n) (o then (λ n. mapped (λ ns. n ∷ ns) p)) ≡ None
+    more None p e = refl
+    more (Some n) None e = refl
+    more (Some n) (Some []) e = none_some (sym e)
+    more (Some n) (Some (m ∷ ns)) e = refl
 
     last : (o : Option ℕ) → if_one (λ n. n) (mapped (λ n. n ∷ []) o) ≡ o
-    last none = refl
-    last (some n) = refl
+    last None = refl
+    last (Some n) = refl
 
 module _ {A : Type 0} (f : ℕ → ℕ → A) where
   behind_first : (n : ℕ) (o : Option (List ℕ)) → if_two f (mapped (λ ns. n ∷ ns) o) ≡ mapped (f n) (if_one (λ m. m) o)
-  behind_first n none = refl
-  behind_first n (some []) = refl
-  behind_first n (some (a ∷ [])) = refl
-  behind_first n (some (a ∷ (b ∷ l))) = refl
+  behind_first n None = refl
+  behind_first n (Some []) = refl
+  behind_first n (Some (a ∷ [])) = refl
+  behind_first n (Some (a ∷ (b ∷ l))) = refl
 
   pub two_numbers : (l : List ℕ) → before comma l < length l
       → if_two f (numbers l) ≡ number (take (before comma l) l) then (λ n. mapped (f n) (number (drop (suc (before comma l)) l)))
@@ -142,15 +140,15 @@ module _ {A : Type 0} (f : ℕ → ℕ → A) where
       rest = drop (suc (before comma l)) l
 
       by_case : (o : Option ℕ) → if_two f (o then (λ n. mapped (λ ns. n ∷ ns) (numbers rest))) ≡ (o then (λ n. mapped (f n) (number rest)))
-      by_case none = refl
-      by_case (some n) = behind_first n (numbers rest) ∙ ap (mapped (f n)) (one_number rest)
+      by_case None = refl
+      by_case (Some n) = behind_first n (numbers rest) ∙ ap (mapped (f n)) (one_number rest)
 
-  pub no_two : (l : List ℕ) → length l ≤ before comma l → if_two f (numbers l) ≡ none
+  pub no_two : (l : List ℕ) → length l ≤ before comma l → if_two f (numbers l) ≡ None
   no_two l h = rw (numbers_last l h) (by_case (number l))
     where
-      by_case : (o : Option ℕ) → if_two f (mapped (λ n. n ∷ []) o) ≡ none
-      by_case none = refl
-      by_case (some n) = refl
+      by_case : (o : Option ℕ) → if_two f (mapped (λ n. n ∷ []) o) ≡ None
+      by_case None = refl
+      by_case (Some n) = refl
 
   -- two numbers from a position on, with a comma found at e
   pub two_at : (l : List ℕ) (at e : ℕ) → e ≡ at + before comma (drop at l) → at ≤ length l → e < length l
@@ -161,56 +159,36 @@ module _ {A : Type 0} (f : ℕ → ℕ → A) where
       ∙ ap (λ p. number p then (λ n. mapped (f n) (number (drop (suc (before comma (drop at l))) (drop at l))))) (found_part comma l at e q)
       ∙ ap (λ r. number (take (e - at) (drop at l)) then (λ n. mapped (f n) (number r))) (found_rest comma l at e q ∙ sym (part_to_end l (e + 1)))
 
--- the number that a reply tells of
-pub number_none : (o : Option ℕ) → Bad ≡ number_reply o → o ≡ none
-number_none none e = refl
-number_none (some n) e = let z : ◌≡◌ {A = ℕ} 0 1 = cc in let w : ⊥ = omega arith in absurd w
-
-pub number_some : (o : Option ℕ) (n : ℕ) → Value n ≡ number_reply o → o ≡ some n
-number_some none n e = let z : ◌≡◌ {A = ℕ} 0 1 = cc in let w : ⊥ = omega arith in absurd w
-number_some (some m) n e = cc
-
-pub pair_none : (o : Option (ℕ × ℕ)) → read-two.Bad ≡ pair_reply o → o ≡ none
-pair_none none e = refl
-pair_none (some p) e = let z : ◌≡◌ {A = ℕ} 0 1 = cc in let w : ⊥ = omega arith in absurd w
-
-pub pair_some : (o : Option (ℕ × ℕ)) (a b : ℕ) → read-two.Pair a b ≡ pair_reply o → o ≡ some (a, b)
-pair_some none a b e = let z : ◌≡◌ {A = ℕ} 0 1 = cc in let w : ⊥ = omega arith in absurd w
-pair_some (some p) a b e =
-    let x : p.0 ≡ a = cc in
-    let y : p.1 ≡ b = cc in
-    ap (λ n. some (n, p.1)) x ∙ ap (λ n. some (a, n)) y
-
 -- what a form makes of its numbers
 one_made : {A : Type 0} (f : ℕ → A) (o : Option (List ℕ)) → if_one f o ≡ mapped f (if_one (λ n. n) o)
-one_made f none = refl
-one_made f (some []) = refl
-one_made f (some (n ∷ [])) = refl
-one_made f (some (n ∷ (m ∷ l))) = refl
+one_made f None = refl
+one_made f (Some []) = refl
+one_made f (Some (n ∷ [])) = refl
+one_made f (Some (n ∷ (m ∷ l))) = refl
 
 two_made : {A : Type 0} (f : ℕ → ℕ → A) (o : Option (List ℕ)) → if_two f o ≡ mapped (λ p. f p.0 p.1) (if_two paired o)
-two_made f none = refl
-two_made f (some []) = refl
-two_made f (some (n ∷ [])) = refl
-two_made f (some (n ∷ (m ∷ []))) = refl
-two_made f (some (n ∷ (m ∷ (k ∷ l)))) = refl
+two_made f None = refl
+two_made f (Some []) = refl
+two_made f (Some (n ∷ [])) = refl
+two_made f (Some (n ∷ (m ∷ []))) = refl
+two_made f (Some (n ∷ (m ∷ (k ∷ l)))) = refl
 
 pub numbers_behind_lem : (key : String) (l : List ℕ) → numbers_after key l ≡ numbers_behind (bytes key) l
 unfolding numbers_after
 numbers_behind_lem key l = by_case (after (bytes key) l)
   where
-    by_case : (o : Option (List ℕ)) → elim o [ none ↦ none | some digits ↦ numbers digits ] ≡ (o then numbers)
-    by_case none = refl
-    by_case (some digits) = refl
+    by_case : (o : Option (List ℕ)) → elim o [ None ↦ None | Some digits ↦ numbers digits ] ≡ (o then numbers)
+    by_case None = refl
+    by_case (Some digits) = refl
 
-pub word_form_lem : {A : Type 0} (key : String) (a : A) (l : List ℕ) → by_form (word key a) l ≡ when is_word (bytes key) l then some a else none
+pub word_form_lem : {A : Type 0} (key : String) (a : A) (l : List ℕ) → by_form (word key a) l ≡ when is_word (bytes key) l then Some a else None
 unfolding by_form
 word_form_lem key a l = by_case (after (bytes key) l)
   where
-    by_case : (o : Option (List ℕ)) → if_empty a o ≡ when present (if_empty (tt {0}) o) then some a else none
-    by_case none = refl
-    by_case (some []) = refl
-    by_case (some (b ∷ m)) = refl
+    by_case : (o : Option (List ℕ)) → if_empty a o ≡ when present (if_empty (tt {0}) o) then Some a else None
+    by_case None = refl
+    by_case (Some []) = refl
+    by_case (Some (b ∷ m)) = refl
 
 pub one_form : {A : Type 0} (key : String) (f : ℕ → A) (l : List ℕ) → by_form (one key f) l ≡ mapped f (if_one (λ n. n) (numbers_behind (bytes key) l))
 unfolding by_form

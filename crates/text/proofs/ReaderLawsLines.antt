@@ -1,7 +1,7 @@
 -- Where a byte stands, and lines, keys and parts found by it.
 use mathlib.Core.Path.{◌≡◌, refl, ap, sym, ◌∙◌}
 use mathlib.Core.Bool.{Bool, true, false}
-use mathlib.Core.Option.{Option, some, none}
+use Rattle.std.specs.Prelude.{Option, Some, None}
 use mathlib.Core.List.{List, [], ◌∷◌}
 use mathlib.Core.Logic.{inl, inr}
 use Prim.Native.Nat.{ℕ, suc, ◌+◌, ◌-◌, ◌≤◌, ◌<◌}
@@ -43,25 +43,25 @@ pub after_same : (key l : List ℕ) (i : ℕ) → i < length key → i < length 
 unfolding after
 after_same key l i h k e = rw (drop_next key i 0 h, drop_next l i 0 k, eq-eqb (get_or key i 0) (get_or l i 0) (sym e), after)
 
-pub after_other : (key l : List ℕ) (i : ℕ) → i < length key → i < length l → (get_or l i 0 ≡ get_or key i 0 → ⊥) → after (drop i key) (drop i l) ≡ none
+pub after_other : (key l : List ℕ) (i : ℕ) → i < length key → i < length l → (get_or l i 0 ≡ get_or key i 0 → ⊥) → after (drop i key) (drop i l) ≡ None
 unfolding after
 after_other key l i h k e = rw (drop_next key i 0 h, drop_next l i 0 k, ne_eqb (get_or key i 0) (get_or l i 0) (λ p. e (sym p)), after)
 
-pub after_short : (key l : List ℕ) → length l < length key → after key l ≡ none
+pub after_short : (key l : List ℕ) → length l < length key → after key l ≡ None
 unfolding after
 after_short [] l h = let z : ⊥ = omega arith in absurd z
 after_short (k ∷ key) [] h = refl
-after_short (k ∷ key) (b ∷ l) h = rw (after_short key l (omega arith)) (if_either (eqb k b) none)
+after_short (k ∷ key) (b ∷ l) h = rw (after_short key l (omega arith)) (if_either (eqb k b) None)
 
 -- behind a key stands what is left of the line
-pub after_rest : (key l : List ℕ) → present (after key l) ≡ true → after key l ≡ some (drop (length key) l)
+pub after_rest : (key l : List ℕ) → present (after key l) ≡ true → after key l ≡ Some (drop (length key) l)
 unfolding after
 after_rest [] l e = refl
 after_rest (k ∷ key) [] e = true_false (sym e)
 after_rest (k ∷ key) (b ∷ l) e = by_test (eqb k b) (after_rest key l) e
   where
-    by_test : (t : Bool) → (present (after key l) ≡ true → after key l ≡ some (drop (length key) l))
-        → present (when t then after key l else none) ≡ true → (when t then after key l else none) ≡ some (drop (length key) l)
+    by_test : (t : Bool) → (present (after key l) ≡ true → after key l ≡ Some (drop (length key) l))
+        → present (when t then after key l else None) ≡ true → (when t then after key l else None) ≡ Some (drop (length key) l)
     by_test true f e = f e
     by_test false f e = true_false (sym e)
 
@@ -72,12 +72,12 @@ key_fits key l e = by_test (leb (length key) (length l)) refl
     by_test true h = leb-true _ _ h
     by_test false h = true_false (sym e ∙ ap present (after_short key l (leb-false _ _ h)))
 
-pub no_key : (key l : List ℕ) → present (after key l) ≡ false → after key l ≡ none
+pub no_key : (key l : List ℕ) → present (after key l) ≡ false → after key l ≡ None
 no_key key l e = by_case (after key l) e
   where
-    by_case : (o : Option (List ℕ)) → present o ≡ false → o ≡ none
-    by_case none e = refl
-    by_case (some m) e = true_false e
+    by_case : (o : Option (List ℕ)) → present o ≡ false → o ≡ None
+    by_case None e = refl
+    by_case (Some m) e = true_false e
 
 -- the bytes before a byte are no more than there are
 pub before_le : (b : ℕ) (l : List ℕ) → before b l ≤ length l
@@ -100,7 +100,7 @@ module _ (b c : ℕ) (l : List ℕ) where
   head_lacks h e = omega (arith, here b c l e)
 
 -- the first line
-pub first_line_lem : (l : List ℕ) → before newline l < length l → first_line l ≡ some (take (before newline l) l, drop (suc (before newline l)) l)
+pub first_line_lem : (l : List ℕ) → before newline l < length l → first_line l ≡ Some (take (before newline l) l, drop (suc (before newline l)) l)
 unfolding first_line
 first_line_lem [] h = let z : ⊥ = omega (arith, before_le newline []) in absurd z
 first_line_lem (c ∷ l) h = elim (same? c newline) [
@@ -108,7 +108,7 @@ first_line_lem (c ∷ l) h = elim (same? c newline) [
   | inr s ↦ rw (later newline c l s.0, s.1, first_line_lem l (tail_has newline c l s.0 h), first_line)
 ]
 
-pub no_line : (l : List ℕ) → length l ≤ before newline l → first_line l ≡ none
+pub no_line : (l : List ℕ) → length l ≤ before newline l → first_line l ≡ None
 unfolding first_line
 no_line [] h = refl
 no_line (c ∷ l) h =

@@ -1,7 +1,7 @@
 -- The lines `cols=` and `row=` are read exactly.
 use mathlib.Core.Path.{◌≡◌, refl, ap, sym, ◌∙◌, subst}
 use mathlib.Core.Bool.{true, false, ◌&&◌}
-use mathlib.Core.Option.{Option, some, none}
+use Rattle.std.specs.Prelude.{Option, Some, None}
 use mathlib.Core.List.{List, [], ◌∷◌, ◌++◌, map}
 use Prim.Native.Nat.{ℕ}
 use lib.Dec.{eqb, ltb}
@@ -45,10 +45,10 @@ cols_exact w = record {
       (line, record { some_column = filled; ascends = ascends; below = below; small = small });
 }
 
-row_of_lem : (w : ℕ) (cs : List ℕ) (o : Option (List ℕ)) (r : Row) → row_of w cs o ≡ some r
-    → (vs : List ℕ) × (o ≡ some vs) × (length vs ≡ length cs) × (filled (replicate w 0) cs vs ≡ r)
-row_of_lem w cs none r e = none_some e
-row_of_lem w cs (some vs) r e = let (t, f) = kept (eqb (length vs) (length cs)) e in (vs, refl, eqb-true (length vs) (length cs) t, f)
+row_of_lem : (w : ℕ) (cs : List ℕ) (o : Option (List ℕ)) (r : Row) → row_of w cs o ≡ Some r
+    → (vs : List ℕ) × (o ≡ Some vs) × (length vs ≡ length cs) × (filled (replicate w 0) cs vs ≡ r)
+row_of_lem w cs None r e = none_some e
+row_of_lem w cs (Some vs) r e = let (t, f) = kept (eqb (length vs) (length cs)) e in (vs, refl, eqb-true (length vs) (length cs) t, f)
 
 filled_good : (w : ℕ) (cs vs : List ℕ) → GoodColumns w cs → length vs ≡ length cs → AllSmall vs
     → (map (slot (filled (replicate w 0) cs vs)) cs ≡ vs) × GoodRow w cs (filled (replicate w 0) cs vs)
@@ -74,15 +74,15 @@ unfolding plain every bytes
 row_plain = refl
 
 module _ (w : ℕ) (cs : List ℕ) (g : GoodColumns w cs) (above : Option Row) where
-  row_read : (r : Row) → GoodRow w cs r → follows above r ≡ true → row_line w cs above (bytes "row=" ++ comma_digits (map (slot r) cs)) ≡ some r
+  row_read : (r : Row) → GoodRow w cs r → follows above r ≡ true → row_line w cs above (bytes "row=" ++ comma_digits (map (slot r) cs)) ≡ Some r
   unfolding row_line
   row_read r h f =
       let line = bytes "row=" ++ comma_digits (map (slot r) cs) in
       let values = numbers_after_lem "row=" line (map (slot r) cs) (null_map (slot r) cs g.some_column) h.small refl in
       let as_many = eq-eqb (length (map (slot r) cs)) (length cs) (length-map cs (slot r)) in
-      range_in (follows above) (row_of w cs (numbers_after "row=" line)) r (rw (values, as_many) (ap some (filled_own w cs r h.shaped))) f
+      range_in (follows above) (row_of w cs (numbers_after "row=" line)) r (rw (values, as_many) (ap Some (filled_own w cs r h.shaped))) f
 
-  row_printed : (l : List ℕ) (r : Row) → row_line w cs above l ≡ some r
+  row_printed : (l : List ℕ) (r : Row) → row_line w cs above l ≡ Some r
       → (bytes "row=" ++ comma_digits (map (slot r) cs) ≡ l) × (GoodRow w cs r × (follows above r ≡ true))
   unfolding row_line
   row_printed l r e =

@@ -1,7 +1,7 @@
 -- Tables of a database's text are read exactly.
 use mathlib.Core.Path.{◌≡◌, refl, sym, ◌∙◌, subst}
 use mathlib.Core.Bool.{Bool, true, ◌&&◌}
-use mathlib.Core.Option.{Option, some, none}
+use Rattle.std.specs.Prelude.{Option, Some, None}
 use mathlib.Core.List.{List, [], ◌∷◌, ◌++◌, map, flat_map}
 use Prim.Native.Nat.{ℕ, ◌≤◌}
 use native.Mathlib.Nat.{le_trans}
@@ -34,53 +34,53 @@ pub record GoodTable (w : ℕ) (t : Table) : Type 0 where
 abbrev row_text : List ℕ → Row → List ℕ
 row_text cs r = line_text (bytes "row=" ++ comma_digits (map (slot r) cs))
 
-pub rows_again : (w : ℕ) (cs : List ℕ) → Again (λ above. due DatabaseForm (row_line w cs above)) some (λ n above. read_rows w cs n above)
+pub rows_again : (w : ℕ) (cs : List ℕ) → Again (λ above. due DatabaseForm (row_line w cs above)) Some (λ n above. read_rows w cs n above)
 unfolding read_rows
 rows_again w cs = record { end = λ _ _. refl; more = λ _ _ _. refl }
 
 -- rows that ascend below a row, if there is one
 abbrev ascend_below : Option Row → Rows → Bool
-ascend_below none rows = ascend rows
-ascend_below (some p) rows = ascend (p ∷ rows)
+ascend_below None rows = ascend rows
+ascend_below (Some p) rows = ascend (p ∷ rows)
 
-ascend_next : (above : Option Row) (r : Row) (rows : Rows) → ascend_below above (r ∷ rows) ≡ (follows above r && ascend_below (some r) rows)
+ascend_next : (above : Option Row) (r : Row) (rows : Rows) → ascend_below above (r ∷ rows) ≡ (follows above r && ascend_below (Some r) rows)
 unfolding ascend
-ascend_next none r rows = refl
-ascend_next (some p) r rows = refl
+ascend_next None r rows = refl
+ascend_next (Some p) r rows = refl
 
 ascend_end : (above : Option Row) → ascend_below above [] ≡ true
 unfolding ascend
-ascend_end none = refl
-ascend_end (some p) = refl
+ascend_end None = refl
+ascend_end (Some p) = refl
 
 module _ (w : ℕ) (cs : List ℕ) where
   abbrev Below : Option Row → Rows → Type 0
-  Below above rows = Chain some (λ above r. GoodRow w cs r × (follows above r ≡ true)) above rows
+  Below above rows = Chain Some (λ above r. GoodRow w cs r × (follows above r ≡ true)) above rows
 
   chain_rows : (above : Option Row) (rows : Rows) → Each (GoodRow w cs) rows → ascend_below above rows ≡ true → Below above rows
   chain_rows above [] h e = tt
   chain_rows above (r ∷ rows) (h, hs) e =
-      let (f, a) = both_true (follows above r) (ascend_below (some r) rows) (sym (ascend_next above r rows) ∙ e) in
-      ((h, f), chain_rows (some r) rows hs a)
+      let (f, a) = both_true (follows above r) (ascend_below (Some r) rows) (sym (ascend_next above r rows) ∙ e) in
+      ((h, f), chain_rows (Some r) rows hs a)
 
   rows_chain : (above : Option Row) (rows : Rows) → Below above rows → Each (GoodRow w cs) rows × (ascend_below above rows ≡ true)
   rows_chain above [] h = (tt, ascend_end above)
   rows_chain above (r ∷ rows) ((h, f), hs) =
-      let (good, a) = rows_chain (some r) rows hs in
+      let (good, a) = rows_chain (Some r) rows hs in
       ((h, good), ascend_next above r rows ∙ and_true _ _ f a)
 
   -- so many rows
   abbrev GoodRows : ℕ → Rows → Type 0
   GoodRows n rows = Each (GoodRow w cs) rows × (ascend rows ≡ true) × (length rows ≡ n)
 
-  rows_exact : GoodColumns w cs → (n : ℕ) → Exact (read_rows w cs n none) (flat_map (row_text cs)) (GoodRows n)
+  rows_exact : GoodColumns w cs → (n : ℕ) → Exact (read_rows w cs n None) (flat_map (row_text cs)) (GoodRows n)
   rows_exact g n =
-      let x = again_exact (rows_again w cs) (λ above. due_exact DatabaseForm (row_exact w cs g above)) n none in
+      let x = again_exact (rows_again w cs) (λ above. due_exact DatabaseForm (row_exact w cs g above)) n None in
       record {
-        reads = λ rows (good, a, e). x.reads rows (chain_rows none rows good a, e);
+        reads = λ rows (good, a, e). x.reads rows (chain_rows None rows good a, e);
         printed = λ s t rows e.
             let (b, (chain, n)) = x.printed s t rows e in
-            let (good, a) = rows_chain none rows chain in
+            let (good, a) = rows_chain None rows chain in
             (b, (good, a, n));
       }
 
@@ -110,7 +110,7 @@ module _ (w : ℕ) where
   table_printed s r t e =
       bind_accepted (due DatabaseForm (cols_line w) s) _ e λ (cs, s₁) cols e₁.
       bind_accepted (due DatabaseForm (count_line "rows=" rows_limit) s₁) _ e₁ λ (n, s₂) count e₂.
-      bind_accepted (read_rows w cs n none s₂) _ e₂ λ (rows, s₃) lines e₃.
+      bind_accepted (read_rows w cs n None s₂) _ e₂ λ (rows, s₃) lines e₃.
       let (b₁, columns) = (due_exact DatabaseForm (cols_exact w)).printed s s₁ cs cols in
       let (b₂, (few, _)) = (due_exact DatabaseForm rows_count_exact).printed s₁ s₂ n count in
       let (b₃, (good, ascends, counted)) = (rows_exact w cs columns n).printed s₂ s₃ rows lines in

@@ -1,7 +1,7 @@
 -- Texts of zero bytes, and of one: "A book of zero bytes shall mean the same as `guide=1` and `tables=0`. … A sheet of zero bytes is refused as before."
 use mathlib.Core.Path.{◌≡◌, refl}
 use mathlib.Core.Bool.{Bool, true, false}
-use mathlib.Core.Option.{some, none}
+use Rattle.std.specs.Prelude.{Some, None}
 use mathlib.Core.List.{[], ◌∷◌}
 use mathlib.Core.Logic.{◌⊎◌, inl, inr}
 use Prim.Native.Nat.{ℕ}
@@ -23,7 +23,7 @@ pub one_byte : (w b : ℕ) → read_database w (b ∷ []) ≡ refused (DatabaseF
 unfolding first_line read_database
 one_byte w b = no_header w (b ∷ []) (by_test (eqb b newline) refl)
   where
-    by_test : (t : Bool) → eqb b newline ≡ t → (first_line (b ∷ []) ≡ none) ⊎ (first_line (b ∷ []) ≡ some ([], []))
+    by_test : (t : Bool) → eqb b newline ≡ t → (first_line (b ∷ []) ≡ None) ⊎ (first_line (b ∷ []) ≡ Some ([], []))
     by_test true e = inr (rw (e, first_line))
     by_test false e = inl (rw (e, first_line))
 

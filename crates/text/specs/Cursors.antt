@@ -1,15 +1,10 @@
 -- A place in a text as the code holds it, and a due line read there. A cursor stands for what is left of the text (`Rest`).
 use Rattle.std.specs.Prelude.{List, ℕ, ◌+◌, ◌-◌, ◌≤◌, leb, ltb, length, take, drop}
-use Rattle.std.proofs.Math.Option.{Option, some, none}
+use Rattle.std.specs.Prelude.{Option, Some, None, Result, Ok, Err}
 use Rattle.laws.specs.Lists.{when◌then◌else◌}
 use Rattle.laws.specs.Options.{mapped}
 use Rattle.text.specs.declared.line_reader.Cursor.{Cursor}
-use Rattle.text.specs.declared.line_reader.Due.{Due}
-use Rattle.text.specs.declared.line_reader.Due.TheVariants as word
-use Rattle.text.specs.declared.line_reader.DueCount.{DueCount}
-use Rattle.text.specs.declared.line_reader.DueCount.TheVariants as count
-use Rattle.text.specs.declared.line_reader.Opened.{Opened}
-use Rattle.text.specs.declared.line_reader.Opened.TheVariants as opened
+use Rattle.text.specs.declared.line_reader.BadLine.{BadLine}
 use Rattle.text.specs.Numbers.{bytes, newline}
 use Rattle.text.specs.Lines.{Rest, if_one, in_range}
 use Rattle.text.specs.Readings.{before, is_word, numbers_behind}
@@ -36,19 +31,18 @@ unfoldable pub due_line : {A : Type 0} → (List ℕ → Option A) → List ℕ 
 due_line form text c =
     when ltb (line_end text c) (length text)
     then mapped (λ a. (a, behind_line c (line_end text c))) (form (take (line_end text c - c.at) (drop c.at text)))
-    else none
+    else None
 
-abbrev pub word_reply : Option (Unit {0} × Cursor) → Due
-word_reply none = word.Bad
-word_reply (some p) = word.Next p.1
+-- where the next line begins, and the same of what a line holds and where, whatever the number of the line
+abbrev pub behind : {A : Type 0} → A × Cursor → Cursor
+behind p = p.1
 
-abbrev pub count_reply : Option (ℕ × Cursor) → DueCount
-count_reply none = count.Bad
-count_reply (some p) = count.Count p.0 p.1.at
+abbrev pub unnumbered : {A : Type 0} → A × Cursor → A × ℕ
+unnumbered p = (p.0, p.1.at)
 
 -- a word, and a key with a number behind it, by their bytes
 abbrev pub word_form : List ℕ → List ℕ → Option (Unit {0})
-word_form s l = when is_word s l then some tt else none
+word_form s l = when is_word s l then Some tt else None
 
 abbrev pub count_form : List ℕ → ℕ → List ℕ → Option ℕ
 count_form key most l = in_range (λ n. leb n most) (if_one (λ n. n) (numbers_behind key l))
@@ -57,13 +51,19 @@ count_form key most l = in_range (λ n. leb n most) (if_one (λ n. n) (numbers_b
 abbrev pub start : Cursor
 start = record { at = 0; line = 1 }
 
+abbrev pub Opened : Type 0
+Opened = Result (ℕ × Cursor) BadLine
+
+abbrev pub bad_line : ℕ → Opened
+bad_line n = Err (record { line = n })
+
 abbrev pub counted : Cursor → Option (ℕ × Cursor) → Opened
-counted c none = opened.Bad c.line
-counted c (some p) = opened.Count p.0 p.1
+counted c None = bad_line c.line
+counted c (Some p) = Ok p
 
 abbrev pub headed : List ℕ → ℕ → List ℕ → Option (Unit {0} × Cursor) → Opened
-headed key most text none = opened.Bad start.line
-headed key most text (some p) = counted p.1 (due_line (count_form key most) text p.1)
+headed key most text None = bad_line start.line
+headed key most text (Some p) = counted p.1 (due_line (count_form key most) text p.1)
 
 abbrev pub opened_at : List ℕ → ℕ → List ℕ → Opened
 opened_at key most text = headed key most text (due_line (word_form (bytes "guide=1")) text start)

@@ -1,6 +1,6 @@
 -- Bytes, numbers and lists of numbers in texts.
 use Rattle.std.specs.Prelude.{Bool, true, false, not, ◌&&◌, List, [], ◌∷◌, ◌++◌, ℕ, zero, suc, ◌+◌, ◌-◌, ◌*◌, ◌/◌, ◌%◌, eqb, leb, ltb}
-use Rattle.std.proofs.Math.Option.{Option, some, none}
+use Rattle.std.specs.Prelude.{Option, Some, None}
 use Prim.Native.Char.{code}
 use Prim.Native.String.{String, [] as end, ◌∷◌ as ◌then◌}
 use Rattle.laws.specs.Lists.{when◌then◌else◌, every, null}
@@ -38,7 +38,7 @@ is_zero (b ∷ (c ∷ l)) = eqb b 48
 unfoldable pub number : List ℕ → Option ℕ
 number l =
     when not (null l) && every is_digit l && not (is_zero l) && leb (value_from 0 l) max_number
-    then some (value_from 0 l) else none
+    then Some (value_from 0 l) else None
 
 -- the digits of n before those of tail
 unfoldable pub digits_before : ℕ → ℕ → List ℕ → List ℕ
@@ -60,8 +60,8 @@ parts (b ∷ l) = when eqb b comma then [] ∷ parts l else into_first b (parts 
 
 -- each part read, or none where one is off the form
 unfoldable pub read_all : List (List ℕ) → Option (List ℕ)
-read_all [] = some []
-read_all (l ∷ ls) = elim (number l) [ none ↦ none | some n ↦ elim (read_all ls) [ none ↦ none | some ns ↦ some (n ∷ ns) ] ]
+read_all [] = Some []
+read_all (l ∷ ls) = elim (number l) [ None ↦ None | Some n ↦ elim (read_all ls) [ None ↦ None | Some ns ↦ Some (n ∷ ns) ] ]
 
 -- numbers with "commas between"
 abbrev pub numbers : List ℕ → Option (List ℕ)

@@ -1,6 +1,6 @@
 -- Whole texts: reading and printing queries and databases, and printing answers and refusals. w is the number of columns.
 use Rattle.std.specs.Prelude.{◌&&◌, ℕ, zero, suc, ◌-◌, leb, length, replicate}
-use Rattle.std.proofs.Math.Option.{Option, some, none}
+use Rattle.std.specs.Prelude.{Option, Some, None}
 use mathlib.Core.List.{List, [], ◌∷◌, ◌++◌, map, flat_map}
 use Rattle.laws.specs.Lists.{member, sift, tabulate}
 use Rattle.algebra.specs.Columns.{Cols, no_cols}
@@ -40,14 +40,14 @@ unfoldable pub read_rows : ℕ → List ℕ → ℕ → Option Row → Rest → 
 read_rows w cs zero above s = accepted ([], s)
 read_rows w cs (suc n) above s = do
   (r, s₁) ← due DatabaseForm (row_line w cs above) s
-  (rows, s₂) ← read_rows w cs n (some r) s₁
+  (rows, s₂) ← read_rows w cs n (Some r) s₁
   accepted (r ∷ rows, s₂)
 
 unfoldable pub read_table : ℕ → Rest → Reply (Table × Rest)
 read_table w s = do
   (cs, s₁) ← due DatabaseForm (cols_line w) s
   (n, s₂) ← due DatabaseForm (count_line "rows=" rows_limit) s₁
-  (rows, s₃) ← read_rows w cs n none s₂
+  (rows, s₃) ← read_rows w cs n None s₂
   accepted (record { columns = cs; rows = rows }, s₃)
 
 -- a book's text: "`guide=1`, `tables=N` (0–16), then for each table `cols=` …, `rows=R` (0–4,096), and R lines `row=`"

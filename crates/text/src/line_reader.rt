@@ -1,61 +1,37 @@
 // Lines of a text and what stands in them: a word, or a key with numbers behind it.
 ghost use Rattle.std.specs.Prelude.{◌≡◌, ℕ, ◌+◌, ◌≤◌, length, drop};
 ghost use Rattle.text.specs.Lines.{after, if_one, if_two};
-ghost use Rattle.laws.specs.Options.{present};
+ghost use Rattle.laws.specs.Options.{mapped, present};
 ghost use Rattle.text.specs.Numbers.{numbers};
-ghost use Rattle.text.specs.Cursors.{cursor, Placed, due_line, word_form, word_reply, count_form, count_reply, opened_at};
-ghost use Rattle.text.specs.Readings.{number_reply, pair_reply, is_word, before, numbers_behind, paired};
+ghost use Rattle.text.specs.Cursors.{cursor, Placed, due_line, behind, unnumbered, word_form, count_form, opened_at};
+ghost use Rattle.text.specs.Readings.{is_word, before, numbers_behind, paired};
 
-use crate::number_reader::{ReadNumber, read_number};
+use crate::number_reader::read_number;
 use byte_classes::is_byte;
 
-// What reading two numbers replies.
-#[derive(Clone, Copy)]
-pub enum ReadPair {
-    Pair(u32, u32),
-    Bad,
-}
-
 // A place in a text, and the number of the line that begins there.
-#[derive(Clone, Copy)]
+#[derive(Clone, Copy, Debug, PartialEq, Eq)]
 pub struct Cursor {
     pub at: usize,
     pub line: usize,
 }
 
-// What a due line replies whose value stands beside, or that has none.
-#[derive(Clone, Copy)]
-pub enum Due {
-    Next(Cursor),
-    Bad,
-}
-
-// What a due line with a count replies: the count, and where the next line begins.
-#[derive(Clone, Copy)]
-pub enum DueCount {
-    Count(u32, usize),
-    Bad,
-}
-
-// What the two lines that open a text reply: the count and the line behind them, or the first bad line.
-#[derive(Clone, Copy)]
-pub enum Opened {
-    Count(u32, Cursor),
-    Bad(usize),
+// The number of the first line that is off the form or isn't there.
+#[derive(Clone, Copy, Debug, PartialEq, Eq)]
+pub struct BadLine {
+    pub line: usize,
 }
 
 // Where a byte stands first from a position on, or the end of the text.
 pub fn find(text: &[u8], at: usize, b: u8) -> usize
     ensures { result ≡ at + before b (drop at text.now) }
 {
-    let mut i = at;
-    while i < text.len() {
+    for i in at..text.len() {
         if is_byte(text[i], b) {
             return i;
         }
-        i += 1;
     }
-    i
+    at.max(text.len())
 }
 
 // A line begins with a key.
@@ -65,11 +41,8 @@ pub fn starts(line: &[u8], key: &[u8]) -> bool
     if line.len() < key.len() {
         return false;
     }
-    let mut i: usize = 0;
-    while i < key.len() {
-        if is_byte(line[i], key[i]) {
-            i += 1;
-        } else {
+    for i in 0..key.len() {
+        if !is_byte(line[i], key[i]) {
             return false;
         }
     }
@@ -80,122 +53,100 @@ pub fn starts(line: &[u8], key: &[u8]) -> bool
 pub fn is_word(line: &[u8], word: &[u8]) -> bool
     ensures { result ≡ is_word word.now line.now }
 {
-    if line.len() == word.len() {
-        starts(line, word)
-    } else {
-        false
-    }
+    line.len() == word.len() && starts(line, word)
 }
 
 // A key and one number.
-pub fn read_one(line: &[u8], key: &[u8]) -> ReadNumber
-    ensures { result ≡ number_reply (if_one (λ n. n) (numbers_behind key.now line.now)) }
+pub fn read_one(line: &[u8], key: &[u8]) -> Option<u32>
+    ensures { result ≡ if_one (λ n. n) (numbers_behind key.now line.now) }
 {
     if starts(line, key) {
-        let at = key.len();
-        let end = line.len();
-        read_number(&line[at..end])
+        read_number(&line[key.len()..])
     } else {
-        ReadNumber::Bad
+        None
     }
 }
 
 // A key and two numbers with a comma between.
-pub fn read_two(line: &[u8], key: &[u8]) -> ReadPair
-    ensures { result ≡ pair_reply (if_two paired (numbers_behind key.now line.now)) }
+pub fn read_two(line: &[u8], key: &[u8]) -> Option<(u32, u32)>
+    ensures { result ≡ if_two paired (numbers_behind key.now line.now) }
 {
     if starts(line, key) {
-        let at = key.len();
-        read_pair(line, at)
+        read_pair(line, key.len())
     } else {
-        ReadPair::Bad
+        None
     }
 }
 
 // Two numbers with a comma between, from a position on.
-fn read_pair(line: &[u8], at: usize) -> ReadPair
+fn read_pair(line: &[u8], at: usize) -> Option<(u32, u32)>
     requires { at ≤ length line.now }
-    ensures { result ≡ pair_reply (if_two paired (numbers (drop at line.now))) }
+    ensures { result ≡ if_two paired (numbers (drop at line.now)) }
 {
-    let end = line.len();
     let comma = find(line, at, b',');
-    if end <= comma {
-        return ReadPair::Bad;
+    if line.len() <= comma {
+        return None;
     }
-    let ReadNumber::Value(a) = read_number(&line[at..comma]) else {
-        return ReadPair::Bad;
-    };
-    let second = comma + 1;
-    let ReadNumber::Value(b) = read_number(&line[second..end]) else {
-        return ReadPair::Bad;
-    };
-    ReadPair::Pair(a, b)
+    let a = read_number(&line[at..comma])?;
+    let b = read_number(&line[comma + 1..])?;
+    Some((a, b))
 }
 
 // A due line that is a word.
-pub(crate) fn due_word(text: &[u8], c: Cursor, word: &[u8]) -> Due
+pub(crate) fn due_word(text: &[u8], c: Cursor, word: &[u8]) -> Option<Cursor>
     requires { Placed c }
-    ensures { result ≡ word_reply (due_line (word_form word.now) text.now c) }
+    ensures { result ≡ mapped behind (due_line (word_form word.now) text.now c) }
 {
-    let at = c.at;
-    let end = find(text, at, b'\n');
+    let end = find(text, c.at, b'\n');
     if text.len() <= end {
-        return Due::Bad;
+        return None;
     }
-    if is_word(&text[at..end], word) {
-        Due::Next(Cursor {
+    if is_word(&text[c.at..end], word) {
+        Some(Cursor {
             at: end + 1,
             line: c.line + 1,
         })
     } else {
-        Due::Bad
+        None
     }
 }
 
 // A key and one number, at most a given one.
-fn read_count(line: &[u8], key: &[u8], most: u32) -> ReadNumber
-    ensures { result ≡ number_reply (count_form key.now most line.now) }
+fn read_count(line: &[u8], key: &[u8], most: u32) -> Option<u32>
+    ensures { result ≡ count_form key.now most line.now }
 {
-    let ReadNumber::Value(n) = read_one(line, key) else {
-        return ReadNumber::Bad;
-    };
-    if n <= most {
-        ReadNumber::Value(n)
-    } else {
-        ReadNumber::Bad
-    }
+    let n = read_one(line, key)?;
+    if n <= most { Some(n) } else { None }
 }
 
 // The line with a count that begins at a place of a text, whatever its number.
-pub fn due_count(text: &[u8], at: usize, key: &[u8], most: u32) -> DueCount
-    ensures { (line : ℕ) → result ≡ count_reply (due_line (count_form key.now most) text.now (cursor at line)) }
+pub fn due_count(text: &[u8], at: usize, key: &[u8], most: u32) -> Option<(u32, usize)>
+    ensures { (line : ℕ) → result ≡ mapped unnumbered (due_line (count_form key.now most) text.now (cursor at line)) }
 {
     let end = find(text, at, b'\n');
     if text.len() <= end {
-        return DueCount::Bad;
+        return None;
     }
-    let ReadNumber::Value(n) = read_count(&text[at..end], key, most) else {
-        return DueCount::Bad;
-    };
-    DueCount::Count(n, end + 1)
+    let n = read_count(&text[at..end], key, most)?;
+    Some((n, end + 1))
 }
 
 // The lines that open a text: `guide=1`, and a line with a count.
-pub fn read_opening(text: &[u8], key: &[u8], most: u32) -> Opened
+pub fn read_opening(text: &[u8], key: &[u8], most: u32) -> Result<(u32, Cursor), BadLine>
     ensures { result ≡ opened_at key.now most text.now }
 {
     let start = Cursor { at: 0, line: 1 };
-    let Due::Next(second) = due_word(text, start, b"guide=1") else {
-        return Opened::Bad(1);
+    let Some(second) = due_word(text, start, b"guide=1") else {
+        return Err(BadLine { line: 1 });
     };
-    let DueCount::Count(n, at) = due_count(text, second.at, key, most) else {
-        return Opened::Bad(second.line);
+    let Some((n, at)) = due_count(text, second.at, key, most) else {
+        return Err(BadLine { line: second.line });
     };
-    Opened::Count(
+    Ok((
         n,
         Cursor {
             at,
             line: second.line + 1,
         },
-    )
+    ))
 }

@@ -9,7 +9,8 @@ ghost use Rattle.output.specs.Replies.{write_reply, slice_after};
 ghost use Rattle.output.specs.Output.{Puts};
 ghost use Rattle.writing.specs.Rooms.{answer_room};
 
-use output::{Written, put_byte, put_bytes, put_number, put_one};
+use database::Refusal;
+use output::{put_byte, put_bytes, put_number, put_one};
 use relation::{COLUMNS, Columns};
 
 // An entry that isn't there reads as 0.
@@ -68,11 +69,7 @@ fn next_row(from: usize, entries: usize) -> usize
     requires { from ≤ entries }
     ensures { result ≡ min (from + width) entries }
 {
-    if entries - from < COLUMNS {
-        entries
-    } else {
-        from + COLUMNS
-    }
+    from + COLUMNS.min(entries - from)
 }
 
 // The lines of the rows. Once the text passes the slice's end, no row behind it can change that.
@@ -135,15 +132,15 @@ pub fn write_answer(
     count: usize,
     ran: u32,
     out: &mut [u8],
-) -> Written
+) -> Result<usize, Refusal>
     ensures { (result ≡ write_reply (answer_text width columns (rows_of width count rows.now) ran) out.old)
         × (out.new ≡ slice_after (answer_text width columns (rows_of width count rows.now) ran) out.old)
         × (length (answer_text width columns (rows_of width count rows.now) ran) ≤ answer_room width count) }
 {
     let size = put_answer(columns, rows, count, ran, false, out);
     if out.len() < size {
-        return Written::Short;
+        return Err(Refusal::ShortSlice);
     }
     put_answer(columns, rows, count, ran, true, out);
-    Written::Bytes(size)
+    Ok(size)
 }

@@ -6,7 +6,7 @@ ghost use Rattle.output.specs.Output.{Puts};
 ghost use Rattle.writing.specs.Rooms.{refusal_room};
 
 use database::Refusal;
-use output::{Written, put_two};
+use output::put_two;
 use refusals::{refusal_number, refusal_place};
 
 fn put_refusal(r: Refusal, store: bool, out: &mut [u8]) -> usize
@@ -19,15 +19,15 @@ fn put_refusal(r: Refusal, store: bool, out: &mut [u8]) -> usize
 }
 
 // "A refusal prints `refused=number,place`"
-pub fn write_refusal(r: Refusal, out: &mut [u8]) -> Written
+pub fn write_refusal(r: Refusal, out: &mut [u8]) -> Result<usize, Refusal>
     ensures { (result ≡ write_reply (refusal_text r) out.old)
         × (out.new ≡ slice_after (refusal_text r) out.old)
         × (length (refusal_text r) ≤ refusal_room) }
 {
     let size = put_refusal(r, false, out);
     if out.len() < size {
-        return Written::Short;
+        return Err(Refusal::ShortSlice);
     }
     put_refusal(r, true, out);
-    Written::Bytes(size)
+    Ok(size)
 }

@@ -1,6 +1,7 @@
 -- `names_held` tests the columns that the condition names.
 use mathlib.Core.Path.{ap, sym, ◌∙◌}
 use mathlib.Core.Bool.{Bool, ◌&&◌}
+use mathlib.Core.Logic.{inl, inr}
 use Rattle.laws.specs.Lists.{every}
 use Rattle.laws.proofs.Indexed.{and_unit}
 use Rattle.algebra.specs.declared.Condition.{Condition}
@@ -15,17 +16,11 @@ all_held cols f = every (cols_of columns cols) (named f)
 pub returns-in-Eq : goal.returns-in-Eq
 unfolding every
 returns-in-Eq c =
-    c.has_column.ensures ∙ sym (and_unit _) ∙ ap (all_held c.args.cols) (sym c.in-Eq.is)
-
-pub returns-in-Ne : goal.returns-in-Ne
-unfolding every
-returns-in-Ne c =
-    c.has_column-in-Ne.ensures ∙ sym (and_unit _) ∙ ap (all_held c.args.cols) (sym c.in-Ne.is)
-
-pub returns-in-Max : goal.returns-in-Max
-unfolding every
-returns-in-Max c =
-    c.has_column-in-Max.ensures ∙ sym (and_unit _) ∙ ap (all_held c.args.cols) (sym c.in-Max.is)
+    c.has_column.ensures ∙ sym (and_unit _) ∙ elim c.in-Eq.is [
+      | inl p ↦ ap (all_held c.args.cols) (sym p.1)
+      | inr (inl p) ↦ ap (all_held c.args.cols) (sym p.1)
+      | inr (inr p) ↦ ap (all_held c.args.cols) (sym p.1)
+    ]
 
 pub returns-in-Same : goal.returns-in-Same
 unfolding every

@@ -1,5 +1,4 @@
 -- The columns below c have passed.
-use borrow.Author.Rules.{rules}
 use native.Mathlib.Omega.{arith}
 use mathlib.Core.Path.{◌≡◌, sym, ◌∙◌}
 use Rattle.relation.specs.Rows.{columns}
@@ -13,12 +12,12 @@ returns-then-not-apart_at c =
 
 pub loop-c-preserved : goal.loop-c-preserved
 loop-c-preserved c =
-    (omega arith, all_more (test c.args.shared c.args.fix c.args.other c.args.marked) c.loop-c.c c.loop-c.invariant.1 (sym c.apart_at.ensures ∙ c.if-not-apart_at.false))
+    all_more (test c.args.shared c.args.fix c.args.other c.args.marked) c.loop-c.c c.loop-c.invariant (sym c.apart_at.ensures ∙ c.if-not-apart_at.false)
 
 pub returns : goal.returns
 returns c =
     let e : c.loop-c.c ≡ columns = omega arith in
-    sym (rw e at c.loop-c.invariant.1)
+    sym (rw e at c.loop-c.invariant)
 
 pub loop-c-init : goal.loop-c-init
-loop-c-init c = (search rules, all_none _)
+loop-c-init c = all_none _

@@ -5,26 +5,20 @@ use native.Mathlib.Nat.{min-eq_left}
 use Prim.Native.Nat.{ℕ, ◌<◌, ◌+◌, ◌*◌}
 use mathlib.Core.Path.{◌≡◌, ap, sym, ◌∙◌}
 use mathlib.Core.List.{List}
-use lib.ListN.{length, get_or, set, length-set}
+use lib.ListN.{length, get_or, set}
 use lib.Seq.{sets}
 use Rattle.query.specs.Lines.{node_limit}
 use Rattle.plan.specs.declared.Slot.{Slot}
 use Rattle.flat.specs.Flat.{slot_of, slot_entries, plan_slots, entry_limit}
-use Rattle.flat.proofs.Blocks.{begun_none, begun_length, begun_more, begun_all}
+use Rattle.flat.proofs.Blocks.{begun_none, begun_more, begun_all}
 use Rattle.flat_plans.proofs.FlatPlans.{slot_size, plan_ops, count_slots, slot_at, nil}
 use Rattle.flat_plans.proofs.encode_plan.Lts as lts
 use Rattle.flat_plans.proofs.encode_plan.Reads as reads
 use Rattle.flat_plans.proofs.encode_plan.Tie as tie
 use Rattle.flat_plans.proofs.encode_plan.Goals as goal
 
-abbrev After-line_count-count : Type 0
-After-line_count-count = lts.After-line_count tie.the-claims reads.Pre reads.Post goal.the-invariant-loop-i goal.the-decreases-loop-i
-
-abbrev At-loop-i : Type 0
-At-loop-i = lts.At-loop tie.the-claims reads.Pre reads.Post goal.the-invariant-loop-i goal.the-decreases-loop-i
-
-abbrev In-loop-i : Type 0
-In-loop-i = lts.In-loop tie.the-claims reads.Pre reads.Post goal.the-invariant-loop-i goal.the-decreases-loop-i
+abbrev After-min-count : Type 0
+After-min-count = lts.After-min tie.the-claims reads.Pre reads.Post goal.the-invariant-loop-i goal.the-decreases-loop-i
 
 abbrev Start : Type 0
 Start = lts.Start tie.the-claims reads.Pre reads.Post goal.the-invariant-loop-i goal.the-decreases-loop-i
@@ -33,20 +27,11 @@ full : (c : Start) → length c.args.plan.ops ≡ node_limit
 full c = plan_ops c.args.plan _ c.well_formed.0
 
 -- the count is that of the nodes
-counted : (c : After-line_count-count) → c.line_count-count.result ≡ length (plan_slots c.args.plan)
-counted c = c.line_count-count.ensures ∙ sym (count_slots c.args.plan (full c.before.before))
+counted : (c : After-min-count) → c.min-count.result ≡ length (plan_slots c.args.plan)
+counted c = c.min-count.ensures ∙ sym (count_slots c.args.plan (full c.before.before))
 
 pub loop-i-init : goal.loop-i-init
 loop-i-init c = (search rules, begun_none slot_of slot_entries slot_size (plan_slots c.args.plan) c.args.out.now (omega arith))
-
-sized : (c : At-loop-i) → length c.loop-i.out ≡ length c.args.out.now
-sized c =
-    let n = counted c.before in
-    ap length c.loop-i.invariant.1
-    ∙ begun_length slot_of slot_entries slot_size (plan_slots c.args.plan) c.args.out.now (get_or c.args.out.now 0 0) c.loop-i.i (omega arith) (omega arith)
-
-within : (c : In-loop-i) → c.loop-i.i < node_limit
-within c = let n = counted c.before.before in omega arith
 
 pub loop-i-preserved : goal.loop-i-preserved
 loop-i-preserved c =
@@ -60,30 +45,9 @@ loop-i-preserved c =
           ∙ begun_more slot_of slot_entries slot_size (plan_slots c.args.plan) c.args.out.now (get_or c.args.out.now 0 0) c.loop-i.i nil k (omega arith),
     )
 
-pub shape_of-out : goal.shape_of-out
-shape_of-out c = length-set c.loop-i.out 0 c.entry.result ∙ sized c.before.before
-
 pub returns : goal.returns
 returns c =
     let n = counted c.before.before.before in
-    let e : c.entry.result ≡ length (plan_slots c.args.plan) = c.entry.ensures ∙ min-eq_left {n = c.line_count-count.result} {m = entry_limit} (omega arith) ∙ n in
+    let e : c.entry.result ≡ length (plan_slots c.args.plan) = c.entry.ensures ∙ min-eq_left {n = c.min-count.result} {m = entry_limit} (omega arith) ∙ n in
     ap (λ v. set c.loop-i.out 0 v) e ∙ ap (λ (o : List ℕ). set o 0 (length (plan_slots c.args.plan))) c.loop-i.invariant.1
     ∙ begun_all slot_of slot_entries slot_size (plan_slots c.args.plan) c.args.out.now (get_or c.args.out.now 0 0) c.loop-i.i (length (plan_slots c.args.plan)) (omega arith)
-
-pub offset_bounds-plan-i : goal.offset_bounds-plan-i
-offset_bounds-plan-i c = omega (arith, within c)
-
-pub bounds-plan-i : goal.bounds-plan-i
-bounds-plan-i c = omega (arith, within c)
-
-pub overflow_mul-i : goal.overflow_mul-i
-overflow_mul-i c = omega (arith, within c.before.before)
-
-pub overflow_add-i : goal.overflow_add-i
-overflow_add-i c = omega (arith, within c.before.before)
-
-pub put_slot-requires : goal.put_slot-requires
-put_slot-requires c = omega (arith, within c.before.before, sized c.before.before.before)
-
-pub bounds-out-0 : goal.bounds-out-0
-bounds-out-0 c = omega (arith, sized c.before.before)

@@ -6,7 +6,7 @@ use Rattle.node_columns.specs.NodeColumns.{columns_to}
 use Rattle.node_columns.proofs.column_sets.Given as goal
 
 abbrev pub invariant-loop-i : goal.invariant-loop-i
-invariant-loop-i l = (l.i ≤ l.count) × (l.held ≡ columns_to (schema columns l.database) l.query l.i)
+invariant-loop-i l = (l.i ≤ l.query.count) × (l.held ≡ columns_to (schema columns l.database) l.query l.i)
 
 abbrev pub decreases-loop-i : goal.decreases-loop-i
-decreases-loop-i l = l.count - l.i
+decreases-loop-i l = l.query.count - l.i

@@ -2,6 +2,7 @@
 use native.Mathlib.Omega.{arith}
 use Prim.Native.Nat.{◌<◌}
 use mathlib.Core.Path.{◌≡◌, ap, sym, ◌∙◌}
+use mathlib.Core.Logic.{inl, inr}
 use mathlib.Core.List.{[]}
 use lib.ListN.{get_or}
 use Rattle.algebra.specs.Columns.{Schema}
@@ -70,16 +71,14 @@ pub returns-in-Drop : goal.returns-in-Drop
 returns-in-Drop c = c.without_column.ensures ∙ told c.before.before _ c.in-Drop.is
 
 pub returns-in-Filter : goal.returns-in-Filter
-returns-in-Filter c = told c.before _ c.in-Filter.is
+returns-in-Filter c = elim c.in-Filter.is [
+  | inl (_, e) ↦ told c.before _ e
+  | inr (inl (_, e)) ↦ told c.before _ e
+  | inr (inr (_, e)) ↦ told c.before _ e
+]
 
 pub returns-in-Fix : goal.returns-in-Fix
 returns-in-Fix c = told c.before _ c.in-Fix.is
-
-pub returns-in-Mu : goal.returns-in-Mu
-returns-in-Mu c = told c.before _ c.in-Mu.is
-
-pub returns-in-Last : goal.returns-in-Last
-returns-in-Last c = told c.before _ c.in-Last.is
 
 pub returns-in-Var : goal.returns-in-Var
 returns-in-Var c =

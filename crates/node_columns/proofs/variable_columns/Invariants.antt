@@ -8,7 +8,7 @@ use Rattle.query.proofs.Contexts.{context}
 use Rattle.node_columns.proofs.variable_columns.Given as goal
 
 abbrev pub invariant-loop-g : goal.invariant-loop-g
-invariant-loop-g l = (l.i < l.g) × (l.g ≤ l.count) × ((G : Schema) → (visit_at G l.query l.i).variable ≡ (context G l.i (drop l.g (visits_of G l.query)) (record { variable = no_cols; around = [] })).variable)
+invariant-loop-g l = (l.i < l.g) × (l.g ≤ l.query.count) × ((G : Schema) → (visit_at G l.query l.i).variable ≡ (context G l.i (drop l.g (visits_of G l.query)) (record { variable = no_cols; around = [] })).variable)
 
 abbrev pub decreases-loop-g : goal.decreases-loop-g
-decreases-loop-g l = l.count - l.g
+decreases-loop-g l = l.query.count - l.g

@@ -1,5 +1,4 @@
 -- The columns below c have their numbers.
-use borrow.Author.Rules.{rules}
 use native.Mathlib.Omega.{arith}
 use Prim.Native.Nat.{ℕ}
 use mathlib.Core.Path.{◌≡◌, refl, ap}
@@ -10,12 +9,12 @@ use Rattle.origins.proofs.line_origins.Goals as goal
 
 pub loop-c-preserved : goal.loop-c-preserved
 loop-c-preserved c =
-    (omega arith, written_more c.loop-c.c c.origin_number.result c.loop-c.invariant.1 c.loop-c-test.true c.origin_number.ensures)
+    written_more c.loop-c.c c.origin_number.result c.loop-c.invariant c.loop-c-test.true c.origin_number.ensures
 
 pub returns : goal.returns
 returns c =
     let e : c.loop-c.c ≡ columns = omega arith in
-    ap (λ (l : List ℕ). record { from = l }) (written_all (rw e at c.loop-c.invariant.1))
+    ap (λ (l : List ℕ). record { from = l }) (written_all (rw e at c.loop-c.invariant))
 
 pub loop-c-init : goal.loop-c-init
-loop-c-init c = (search rules, written_none refl)
+loop-c-init c = written_none refl

@@ -1,4 +1,4 @@
-use Prim.Native.Nat.{◌≤◌, ◌-◌}
+use Prim.Native.Nat.{◌-◌}
 use mathlib.Core.Path.{◌≡◌}
 use lib.ListN.{replicate}
 use Rattle.query.specs.Lines.{node_limit}
@@ -6,7 +6,4 @@ use Rattle.origins.specs.Origins.{no_origins, origins_from}
 use Rattle.origins.proofs.step_origins.Given as goal
 
 abbrev pub invariant-loop-i : goal.invariant-loop-i
-invariant-loop-i l = (l.start ≤ l.i) × (l.i ≤ l.end) × (l.held ≡ origins_from l.query l.facts l.start (l.i - l.start) (replicate node_limit no_origins))
-
-abbrev pub decreases-loop-i : goal.decreases-loop-i
-decreases-loop-i l = l.end - l.i
+invariant-loop-i l = l.held ≡ origins_from l.query l.facts l.start (l.i - l.start) (replicate node_limit no_origins)

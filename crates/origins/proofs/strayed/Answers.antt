@@ -1,5 +1,4 @@
 -- Of the columns below c those are marked whose number is another.
-use borrow.Author.Rules.{rules}
 use native.Mathlib.Omega.{arith}
 use mathlib.Core.Path.{◌≡◌, refl, ap}
 use mathlib.Core.Bool.{Bool, not}
@@ -11,12 +10,12 @@ use Rattle.origins.proofs.strayed.Goals as goal
 
 pub loop-c-preserved : goal.loop-c-preserved
 loop-c-preserved c =
-    (omega arith, written_more c.loop-c.c _ c.loop-c.invariant.1 c.loop-c-test.true (ap (λ n. not (eqb n c.loop-c.c)) c.number_at.ensures))
+    written_more c.loop-c.c _ c.loop-c.invariant c.loop-c-test.true (ap (λ n. not (eqb n c.loop-c.c)) c.number_at.ensures)
 
 pub returns : goal.returns
 returns c =
     let e : c.loop-c.c ≡ columns = omega arith in
-    ap (λ (l : List Bool). record { has = l }) (written_all (rw e at c.loop-c.invariant.1))
+    ap (λ (l : List Bool). record { has = l }) (written_all (rw e at c.loop-c.invariant))
 
 pub loop-c-init : goal.loop-c-init
-loop-c-init c = (search rules, written_none refl)
+loop-c-init c = written_none refl

@@ -1,4 +1,3 @@
-use Prim.Native.Nat.{◌≤◌, ◌-◌}
 use mathlib.Core.Bool.{false, not}
 use lib.Dec.{eqb}
 use Rattle.laws.proofs.Indexed.{Written}
@@ -7,7 +6,4 @@ use Rattle.origins.specs.Origins.{number_at}
 use Rattle.origins.proofs.strayed.Given as goal
 
 abbrev pub invariant-loop-c : goal.invariant-loop-c
-invariant-loop-c l = (l.c ≤ columns) × Written false (λ e. not (eqb (number_at l.held e) e)) columns l.found.has l.c
-
-abbrev pub decreases-loop-c : goal.decreases-loop-c
-decreases-loop-c l = columns - l.c
+invariant-loop-c l = Written false (λ e. not (eqb (number_at l.held e) e)) columns l.found.has l.c

@@ -1,16 +1,18 @@
 -- `put_byte` meets its contract: the byte is stored within the slice, and the place moves up to the end and one past it.
 use native.Mathlib.Omega.{arith}
-use Rattle.output.proofs.Puts.{puts_stored, puts_measured, puts_end, puts_past}
+use mathlib.Core.Path.{refl}
+use Rattle.output.proofs.Puts.{puts_stored, puts_measured, puts_end, puts_past, puts_at}
 use Rattle.output.proofs.put_byte.Goals as goal
+use Rattle.output.proofs.put_byte.Goals.{then-store+then-at-out, else-store, else-store-via-then-store+else-at-out, else-store-via-else-store}
 
-pub returns-then-store : goal.returns-then-store
-returns-then-store c = puts_stored _ (omega arith) c.if-store.true
-
-pub returns-then-at-out : goal.returns-then-at-out
-returns-then-at-out c = puts_measured _ (omega arith) c.if-store.false
-
-pub returns-then-at-out-2 : goal.returns-then-at-out-2
-returns-then-at-out-2 c = puts_end _ c.if-at-out-2.true
+pub returns-then-out-at : goal.returns-then-out-at
+returns-then-out-at c = puts_past _ c.if-out-at.true
 
 pub returns : goal.returns
-returns c = puts_past _ (omega arith)
+returns c = elim c.if-store.branch [
+  | then-store+then-at-out w ↦ puts_at refl w.out-is (puts_stored _ w.if-at-out.true w.if-store.true)
+  | else-store w ↦ puts_at refl w.out-is (elim w.else-store.branch [
+    | else-store-via-then-store+else-at-out v ↦ puts_end _ (omega arith) v.if-store.true
+    | else-store-via-else-store v ↦ puts_measured _ c.if-out-at.false v.if-store.false
+  ])
+]

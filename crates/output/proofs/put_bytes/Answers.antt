@@ -1,5 +1,4 @@
 -- `put_bytes` meets its contract: after i turns the first i bytes are put.
-use borrow.Author.Rules.{rules}
 use native.Mathlib.Omega.{arith}
 use native.Mathlib.Numerals.{add-one}
 use Prim.Native.Nat.{ℕ, ◌≤◌}
@@ -10,21 +9,19 @@ use lib.Seq.{take-suc, take_all}
 use Rattle.output.proofs.Puts.{puts_none, puts_then, puts_as, puts_length}
 use Rattle.output.proofs.put_bytes.Goals as goal
 
-pub loop-i-preserved : goal.loop-i-preserved
-loop-i-preserved c =
+pub loop-b-init : goal.loop-b-init
+loop-b-init c = (omega arith, puts_none)
+
+pub loop-b-preserved : goal.loop-b-preserved
+loop-b-preserved c =
     let text : List ℕ = c.args.text.now in
-    let i : ℕ = c.loop-i.i in (
+    let i : ℕ = c.loop-b.b-index in (
       omega arith,
-      search rules,
-      puts_as (sym (take-suc text i 0 (omega arith)) ∙ ap (λ k. take k text) (sym (add-one i))) (puts_then c.loop-i.invariant.2 c.put_byte-next.ensures),
+      puts_as (sym (take-suc text i 0 (omega arith)) ∙ ap (λ k. take k text) (sym (add-one i))) (puts_then c.loop-b.invariant.1 c.put_byte-next.ensures),
     )
 
 pub returns : goal.returns
-returns c = let h : length c.args.text.now ≤ c.loop-i.i = omega arith in
-    puts_as (take_all _ _ h) c.loop-i.invariant.2
-
-pub loop-i-init : goal.loop-i-init
-loop-i-init c = (search rules, search rules, puts_none)
+returns c = let h : length c.args.text.now ≤ c.loop-b.b-index = omega arith in puts_as (take_all _ _ h) c.loop-b.invariant.1
 
 pub shape_of-out : goal.shape_of-out
-shape_of-out c = puts_length c.loop-i.invariant.2
+shape_of-out c = puts_length c.loop-b.invariant.1

@@ -4,8 +4,5 @@ use Rattle.query.proofs.Lengths.{query_length}
 use Rattle.query_writing.proofs.QueryLines.{count_lines}
 use Rattle.query_writing.proofs.line_count.Goals as goal
 
-pub returns-then-query-lt-NODES : goal.returns-then-query-lt-NODES
-returns-then-query-lt-NODES c = omega (arith, count_lines c.args.query (query_length c.args.query _ c.well_formed.0))
-
-pub returns-else-query-lt-NODES : goal.returns-else-query-lt-NODES
-returns-else-query-lt-NODES c = omega (arith, count_lines c.args.query (query_length c.args.query _ c.well_formed.0))
+pub returns : goal.returns
+returns c = omega (arith, count_lines c.args.query (query_length c.args.query _ c.well_formed.0))

@@ -11,7 +11,7 @@ use Rattle.query.specs.Lines.{nodes, node_limit}
 use Rattle.query.proofs.Lengths.{query_length}
 use Rattle.text.specs.Lines.{node_text}
 use Rattle.text.specs.Texts.{line_text}
-use Rattle.output.proofs.Puts.{puts_none, puts_then, puts_as, puts_length}
+use Rattle.output.proofs.Puts.{puts_none, puts_then, puts_as}
 use Rattle.query_writing.proofs.QueryLines.{count_lines, more_lines}
 use Rattle.query_writing.proofs.put_lines.Lts as lts
 use Rattle.query_writing.proofs.put_lines.Reads as reads
@@ -45,6 +45,3 @@ offset_bounds-query-i c = omega (arith, within c)
 
 pub bounds-query-i : goal.bounds-query-i
 bounds-query-i c = omega (arith, within c)
-
-pub shape_of-out : goal.shape_of-out
-shape_of-out c = puts_length c.loop-i.invariant.1

@@ -1,4 +1,4 @@
-use Prim.Native.Nat.{◌≤◌, ◌-◌}
+use Prim.Native.Nat.{◌≤◌}
 use mathlib.Core.List.{flat_map}
 use lib.ListN.{take}
 use Rattle.query.specs.Lines.{nodes}
@@ -9,6 +9,3 @@ use Rattle.query_writing.proofs.put_lines.Given as goal
 
 abbrev pub invariant-loop-i : goal.invariant-loop-i
 invariant-loop-i l = (l.i ≤ l.count) × Puts l.store (flat_map (λ n. line_text (node_text n)) (take l.i (nodes l.query))) l.at l.initial.out l.next l.out
-
-abbrev pub decreases-loop-i : goal.decreases-loop-i
-decreases-loop-i l = l.count - l.i

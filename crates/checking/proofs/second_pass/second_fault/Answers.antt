@@ -3,13 +3,14 @@ use native.Mathlib.Omega.{arith}
 use Prim.Native.Nat.{◌+◌, ◌<◌}
 use mathlib.Core.Path.{◌≡◌, ap, sym, ◌∙◌}
 use mathlib.Core.Bool.{Bool}
+use mathlib.Core.Logic.{inl, inr}
 use mathlib.Core.List.{[]}
 use lib.ListN.{get_or, take}
 use Rattle.algebra.specs.Columns.{Schema}
 use Rattle.relation.specs.declared.Columns.{Columns}
 use Rattle.relation.specs.Rows.{columns}
 use Rattle.database.specs.declared.Refusal.TheVariants.{ColumnFault}
-use Rattle.database.specs.declared.Verdict.{Verdict}
+use Rattle.database.specs.Refusals.{Verdict}
 use Rattle.database.specs.Stored.{schema}
 use Rattle.database.specs.Refusals.{Reply, verdict, no_fault}
 use Rattle.query.specs.declared.Node.{Node}
@@ -66,12 +67,6 @@ module _ (c : After-left-1) where
 pub returns-in-Table : goal.returns-in-Table
 returns-in-Table c = c.accept_if.ensures ∙ told c.before.before _ c.in-Table.is
 
-pub returns-in-Var : goal.returns-in-Var
-returns-in-Var c = told c.before _ c.in-Var.is
-
-pub returns-in-Fact : goal.returns-in-Fact
-returns-in-Fact c = told c.before _ c.in-Fact.is
-
 pub returns-in-Pair : goal.returns-in-Pair
 returns-in-Pair c =
     c.accept_if-in-Pair.ensures ∙ ap (failed c.before.before.before) c.sides_agree.ensures ∙ told c.before.before.before _ c.in-Pair.is
@@ -92,8 +87,12 @@ pub returns-in-Fix : goal.returns-in-Fix
 returns-in-Fix c =
     c.accept_if-in-Fix.ensures ∙ ap (failed c.before.before.before) c.same_columns.ensures ∙ told c.before.before.before _ c.in-Fix.is
 
-pub returns-in-Mu : goal.returns-in-Mu
-returns-in-Mu c = told c.before _ c.in-Mu.is
+pub returns-in-Var : goal.returns-in-Var
+returns-in-Var c = elim c.in-Var.is [
+  | inl (_, e) ↦ told c.before _ e
+  | inr (inl (_, _, e)) ↦ told c.before _ e
+  | inr (inr (_, e)) ↦ told c.before _ e
+]
 
 pub returns-in-Last : goal.returns-in-Last
 returns-in-Last c =

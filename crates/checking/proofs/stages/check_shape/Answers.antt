@@ -1,5 +1,7 @@
 -- `stages::check_shape`: the refusal of the shape, or what the later stages leave.
-use mathlib.Core.Path.{refl, ap, sym, ◌∙◌}
+use borrow.Author.Rules.{rules}
+use mathlib.Core.Path.{◌≡◌, ap, sym, ◌∙◌}
+use Rattle.std.specs.Prelude.{Err}
 use Rattle.algebra.specs.Term.{Term}
 use Rattle.relation.specs.Rows.{columns}
 use Rattle.database.specs.Stored.{schema}
@@ -13,11 +15,12 @@ use Rattle.checking.proofs.stages.check_shape.Goals as goal
 
 pub check_split-requires : goal.check_split-requires
 check_split-requires c =
-    (shape_passed c.args.query c.shape-shaped.result c.shape-shaped.ensures (sym c.in-Accepted.is) (nodes_length c.args.query _ c.well_formed.0 c.requires.1) c.requires.1, c.requires.2)
+    (shape_passed c.args.query (sym c.in_ok-shape.was ∙ c.shape.ensures) (nodes_length c.args.query _ c.well_formed.0 c.requires.1) c.requires.1, c.requires.2)
 
-pub returns-in-Refused : goal.returns-in-Refused
-returns-in-Refused c =
+pub returns-in_err-shape : goal.returns-in_err-shape
+returns-in_err-shape c =
     let G = schema columns c.args.database in
-    c.refusal.ensures G refl
+    let told : c.from_residual.result ≡ Err c.in_err-shape.field-0.0 = search rules in
+    told
     ∙ ap (λ (r : Reply Term). checked_value G c.args.query (pass_term G (r >>= split_term)))
-    (sym (shape_refused c.args.query c.shape-shaped.result c.shape-shaped.ensures (sym c.in-Refused.is)))
+    (sym (shape_refused c.args.query (sym c.in_err-shape.was ∙ c.shape.ensures)))

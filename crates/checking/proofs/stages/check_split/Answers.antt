@@ -1,41 +1,40 @@
 -- `stages::check_split`: the refusal of the split, or what the passes leave of the split sheet.
-use mathlib.Core.Path.{refl, ap, sym, ◌∙◌}
+use borrow.Author.Rules.{rules}
+use mathlib.Core.Path.{◌≡◌, refl, ap, sym, ◌∙◌}
+use Rattle.std.specs.Prelude.{Ok, Err}
 use Rattle.algebra.specs.Term.{Term}
 use Rattle.relation.specs.Rows.{columns}
 use Rattle.database.specs.Stored.{schema}
 use Rattle.database.specs.Refusals.{Reply}
-use Rattle.query.specs.Facts.{checked_value}
+use Rattle.query.specs.Facts.{padded, checked_value}
+use Rattle.query.specs.Shape.{starts, shape_of}
 use Rattle.checking.specs.CheckStages.{pass_term}
-use Rattle.checking.proofs.StageReplies.{shape_passed, SheetOf, split_refused, split_passed}
-use Rattle.checking.proofs.stages.check_split.Lts as lts
-use Rattle.checking.proofs.stages.check_split.Reads as reads
-use Rattle.checking.proofs.stages.check_split.Tie as tie
+use Rattle.checking.proofs.StageReplies.{shape_passed, split_refused, split_passed}
 use Rattle.checking.proofs.stages.check_split.Goals as goal
 
-abbrev In-Accepted : Type 0
-In-Accepted = lts.Past-After-enum_told tie.the-claims reads.Pre reads.Post
+pub shape-requires : goal.shape-requires
+shape-requires c = (split_passed c.args.query c.args.start c.requires.0 c.requires.1 (sym c.in_ok-sheet.was ∙ c.split.ensures)).range
 
--- the split was accepted
-passed : (c : In-Accepted) → SheetOf c.args.query c.split-parted.result.query
-passed c =
-    split_passed c.args.query c.split-parted.result c.split-parted.ensures c.args.start c.requires.0 c.requires.1 (sym c.in-Accepted.is)
-
-pub shape-shaped-requires : goal.shape-shaped-requires
-shape-shaped-requires c = (passed c).range
+pub unwrap-requires : goal.unwrap-requires
+unwrap-requires c =
+    let y = split_passed c.args.query c.args.start c.requires.0 c.requires.1 (sym c.in_ok-sheet.was ∙ c.split.ensures) in
+    let reads : c.shape.result ≡ Ok (padded 0 (starts 0 y.term)) = c.shape.ensures ∙ ap shape_of y.is in
+    rw reads refl
 
 pub check_passes-requires : goal.check_passes-requires
 check_passes-requires c =
-    let y = passed c.before.before in
-    (shape_passed _ c.shape-shaped.result c.shape-shaped.ensures (y.shapes c.shape-shaped.result c.shape-shaped.ensures) y.counted y.range.1, y.formed, y.given)
+    let y = split_passed c.args.query c.args.start c.requires.0 c.requires.1 (sym c.in_ok-sheet.was ∙ c.split.ensures) in
+    (shape_passed _ (sym c.unwrap.ensures ∙ c.shape.ensures) y.counted y.range.1, y.formed, y.given)
 
-pub returns-in-Refused : goal.returns-in-Refused
-returns-in-Refused c =
+pub returns-in_err-sheet : goal.returns-in_err-sheet
+returns-in_err-sheet c =
     let G = schema columns c.args.database in
-    c.refusal.ensures G refl
-    ∙ ap (λ (r : Reply Term). checked_value G c.args.query (pass_term G r))
-    (sym (split_refused c.args.query c.split-parted.result c.split-parted.ensures (sym c.in-Refused.is)))
+    let told : c.from_residual.result ≡ Err c.in_err-sheet.field-0.0 = search rules in
+    told
+    ∙ ap (λ (r : Reply Term). checked_value G c.args.query (pass_term G r)) (sym (split_refused c.args.query (sym c.in_err-sheet.was ∙ c.split.ensures)))
 
-pub returns-in-Accepted : goal.returns-in-Accepted
-returns-in-Accepted c =
+pub returns : goal.returns
+returns c =
     let G = schema columns c.args.database in
-    c.check_passes.ensures ∙ ap (λ (r : Reply Term). checked_value G c.args.query (pass_term G r)) (passed c.before.before.before).reads
+    let y = split_passed c.args.query c.args.start c.requires.0 c.requires.1 (sym c.in_ok-sheet.was ∙ c.split.ensures) in
+    c.check_passes.ensures ∙ ap (λ (r : Reply Term). checked_value G c.args.query (pass_term G r)) y.reads

@@ -20,20 +20,20 @@ use Rattle.database.proofs.form.check_database.Goals as goal
 abbrev Else-not-table_ok : Type 0
 Else-not-table_ok = lts.Else2 tie.the-claims reads.Pre reads.Post goal.the-invariant-loop-t goal.the-decreases-loop-t
 
-pub returns-then-tables-gt-TABLES : goal.returns-then-tables-gt-TABLES
-returns-then-tables-gt-TABLES c =
-    sym (ap verdict ((check_database_refused columns c.args.database c.args.store.now _).1 (inl (c.if-tables-gt-TABLES.true, refl))))
+pub returns-then-database-gt-TABLES : goal.returns-then-database-gt-TABLES
+returns-then-database-gt-TABLES c =
+    sym (ap verdict ((check_database_refused columns c.args.database c.args.store.now _).1 (inl (c.if-database-gt-TABLES.true, refl))))
 
 pub loop-t-init : goal.loop-t-init
-loop-t-init c = (omega arith, (sym (start_none columns _), (omega arith, below_none _)))
+loop-t-init c = (sym (start_none columns _), (omega arith, below_none _))
 
 pub returns-then-not-table_ok : goal.returns-then-not-table_ok
 returns-then-not-table_ok c =
-    let few : c.args.database.tables ≤ table_limit = c.if-tables-gt-TABLES.false in
+    let few : c.args.database.tables ≤ table_limit = c.if-database-gt-TABLES.false in
     let fails = sym c.table_ok.ensures ∙ c.if-not-table_ok.true in
     sym (ap verdict (
     (check_database_refused columns c.args.database c.args.store.now _).1
-    (inr (c.loop-t.t, few, c.loop-t-test.true, fails, c.loop-t.invariant.1.1.1, refl))
+    (inr (c.loop-t.t, few, c.loop-t-test.true, fails, c.loop-t.invariant.1.1, refl))
     ))
 
 -- table t has passed, and has all its entries
@@ -51,17 +51,14 @@ pub loop-t-preserved : goal.loop-t-preserved
 loop-t-preserved c =
     let e = start_more columns c.args.database c.loop-t.t in
     let h = room c.before.before in (
-      omega arith,
-      (
-        omega (arith, c.row_count.ensures),
-        (omega (arith, c.row_count.ensures), below_more _ c.loop-t.t c.loop-t.invariant.1.1.1 (passed c.before.before)),
-      ),
+      omega (arith, c.row_count.ensures),
+      (omega (arith, c.row_count.ensures), below_more _ c.loop-t.t c.loop-t.invariant.1.1 (passed c.before.before)),
     )
 
 pub returns : goal.returns
 returns c =
-    let few : c.args.database.tables ≤ table_limit = c.if-tables-gt-TABLES.false in
-    sym (ap verdict ((check_database_iff columns c.args.database c.args.store.now).1 (few, λ u h. c.loop-t.invariant.1.1.1 u (omega arith))))
+    let few : c.args.database.tables ≤ table_limit = c.if-database-gt-TABLES.false in
+    sym (ap verdict ((check_database_iff columns c.args.database c.args.store.now).1 (few, λ u h. c.loop-t.invariant.1.1 u (omega arith))))
 
 pub overflow_mul-start : goal.overflow_mul-start
 overflow_mul-start c = omega (arith, room c.before.before, c.row_count.ensures)

@@ -1,18 +1,15 @@
 -- The bits below c are taken, and the rest is what is left of the number above them.
-use borrow.Author.Rules.{rules}
 use borrow.Author.Tests.{eq-eqb, ne_eqb}
 use native.Mathlib.Omega.{arith}
 use Prim.Native.Nat.{ℕ, ◌+◌, ◌/◌, ◌%◌, ◌^◌}
-use native.Mathlib.Nat.{div-div-eq-div-mul, div-one, pow-suc}
+use native.Mathlib.Nat.{div-div-eq-div-mul, pow-suc}
 use native.Mathlib.Numerals.{add-one}
 use mathlib.Core.Path.{◌≡◌, ap, sym, ◌∙◌}
 use mathlib.Core.Bool.{Bool, false}
 use mathlib.Core.List.{List}
-use lib.ListN.{length}
 use lib.Dec.{eqb}
 use Rattle.laws.specs.Lists.{when◌then◌else◌}
-use Rattle.laws.proofs.Indexed.{Written, written_none, written_more, written_all}
-use Rattle.laws.proofs.Tabulated.{length_tabulate}
+use Rattle.laws.proofs.Indexed.{Written, written_more, written_all}
 use Rattle.algebra.specs.Columns.{no_cols}
 use Rattle.relation.specs.declared.Columns.{Columns}
 use Rattle.relation.specs.Rows.{columns, columns_of}
@@ -21,10 +18,6 @@ use Rattle.flat.proofs.decode.column_set.Goals as goal
 
 halved : (bits c rest : ℕ) → rest ≡ bits / 2 ^ c → rest / 2 ≡ bits / 2 ^ (c + 1)
 halved bits c rest e = ap (λ x. x / 2) e ∙ div-div-eq-div-mul bits (2 ^ c) 2 ∙ ap (λ x. bits / x) (sym (pow-suc 2 c) ∙ ap (λ n. 2 ^ n) (sym (add-one c)))
-
-pub loop-c-init : goal.loop-c-init
-loop-c-init c =
-    (search rules, sym (div-one _), written_none (ap (λ (s : Columns). length s.has) c.no_columns-set.ensures ∙ length_tabulate no_cols columns))
 
 pub loop-c-preserved : goal.loop-c-preserved
 loop-c-preserved c = (

@@ -52,12 +52,5 @@ loop-c-preserved c = (
       ∙ bits_more (cols_of columns c.args.set) c.loop-c.c,
 )
 
-pub returns : goal.returns
-returns c =
-    c.loop-c.invariant.2 ∙ ap (λ n. bit_set n (cols_of columns c.args.set)) {x = c.loop-c.c} {y = columns} (omega arith)
-
 pub overflow_add-bits : goal.overflow_add-bits
 overflow_add-bits c = omega (arith, small c, low c.before.before.before)
-
-pub overflow_mul-worth : goal.overflow_mul-worth
-overflow_mul-worth c = omega (arith, low c.before.before.before)

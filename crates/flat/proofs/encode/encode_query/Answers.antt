@@ -5,28 +5,22 @@ use native.Mathlib.Nat.{min-eq_left}
 use Prim.Native.Nat.{ℕ, ◌<◌, ◌+◌, ◌*◌}
 use mathlib.Core.Path.{◌≡◌, ap, sym, ◌∙◌}
 use mathlib.Core.List.{List, [], ◌∷◌}
-use lib.ListN.{length, get_or, set, length-set}
+use lib.ListN.{length, get_or, set}
 use lib.Seq.{sets}
 use Rattle.query.specs.declared.Node.TheVariants.{Table}
 use Rattle.query.specs.Lines.{nodes, node_limit}
 use Rattle.query.proofs.Lengths.{query_length}
 use Rattle.flat.specs.declared.FlatLine.{FlatLine}
 use Rattle.flat.specs.Flat.{line_of, line_entries, entry_limit}
-use Rattle.flat.proofs.Blocks.{begun_none, begun_length, begun_more, begun_all}
+use Rattle.flat.proofs.Blocks.{begun_none, begun_more, begun_all}
 use Rattle.flat.proofs.FlatQueries.{line_size, count_nodes, node_of_lem}
 use Rattle.flat.proofs.encode.encode_query.Lts as lts
 use Rattle.flat.proofs.encode.encode_query.Reads as reads
 use Rattle.flat.proofs.encode.encode_query.Tie as tie
 use Rattle.flat.proofs.encode.encode_query.Goals as goal
 
-abbrev After-node_count-count : Type 0
-After-node_count-count = lts.After-node_count tie.the-claims reads.Pre reads.Post goal.the-invariant-loop-i goal.the-decreases-loop-i
-
-abbrev At-loop-i : Type 0
-At-loop-i = lts.At-loop tie.the-claims reads.Pre reads.Post goal.the-invariant-loop-i goal.the-decreases-loop-i
-
-abbrev In-loop-i : Type 0
-In-loop-i = lts.In-loop tie.the-claims reads.Pre reads.Post goal.the-invariant-loop-i goal.the-decreases-loop-i
+abbrev After-min-count : Type 0
+After-min-count = lts.After-min tie.the-claims reads.Pre reads.Post goal.the-invariant-loop-i goal.the-decreases-loop-i
 
 abbrev Start : Type 0
 Start = lts.Start tie.the-claims reads.Pre reads.Post goal.the-invariant-loop-i goal.the-decreases-loop-i
@@ -35,20 +29,11 @@ full : (c : Start) → length c.args.query.lines ≡ node_limit
 full c = query_length c.args.query _ c.well_formed.0
 
 -- the count is that of the nodes
-counted : (c : After-node_count-count) → c.node_count-count.result ≡ length (nodes c.args.query)
-counted c = c.node_count-count.ensures ∙ sym (count_nodes c.args.query (full c.before.before))
+counted : (c : After-min-count) → c.min-count.result ≡ length (nodes c.args.query)
+counted c = c.min-count.ensures ∙ sym (count_nodes c.args.query (full c.before.before))
 
 pub loop-i-init : goal.loop-i-init
 loop-i-init c = (search rules, begun_none line_of line_entries line_size (nodes c.args.query) c.args.out.now (omega arith))
-
-sized : (c : At-loop-i) → length c.loop-i.out ≡ length c.args.out.now
-sized c =
-    let n = counted c.before in
-    ap length c.loop-i.invariant.1
-    ∙ begun_length line_of line_entries line_size (nodes c.args.query) c.args.out.now (get_or c.args.out.now 0 0) c.loop-i.i (omega arith) (omega arith)
-
-within : (c : In-loop-i) → c.loop-i.i < node_limit
-within c = let n = counted c.before.before in omega arith
 
 pub loop-i-preserved : goal.loop-i-preserved
 loop-i-preserved c =
@@ -57,30 +42,15 @@ loop-i-preserved c =
     let k : c.loop-i.i < length (nodes c.args.query) = omega arith in (
       omega arith,
       c.put_line.ensures
-          ∙ ap (λ (l : FlatLine). sets c.loop-i.out (1 + line_entries * c.loop-i.i) (l.code ∷ (l.a ∷ (l.b ∷ [])))) c.flat_line.ensures
+          ∙ ap (λ (l : FlatLine). sets c.loop-i.out (1 + line_entries * c.loop-i.i) (l.code ∷ (l.a ∷ (l.b ∷ [])))) c.from-line.ensures
           ∙ ap (λ nd. sets c.loop-i.out (1 + line_entries * c.loop-i.i) (line_of nd)) (sym (node_of_lem c.args.query c.loop-i.i h))
           ∙ ap (λ (o : List ℕ). sets o (1 + line_entries * c.loop-i.i) (line_of (get_or (nodes c.args.query) c.loop-i.i (Table 0)))) c.loop-i.invariant.1
           ∙ begun_more line_of line_entries line_size (nodes c.args.query) c.args.out.now (get_or c.args.out.now 0 0) c.loop-i.i (Table 0) k (omega arith),
     )
 
-pub shape_of-out : goal.shape_of-out
-shape_of-out c = length-set c.loop-i.out 0 c.entry.result ∙ sized c.before.before
-
 pub returns : goal.returns
 returns c =
     let n = counted c.before.before.before in
-    let e : c.entry.result ≡ length (nodes c.args.query) = c.entry.ensures ∙ min-eq_left {n = c.node_count-count.result} {m = entry_limit} (omega arith) ∙ n in
+    let e : c.entry.result ≡ length (nodes c.args.query) = c.entry.ensures ∙ min-eq_left {n = c.min-count.result} {m = entry_limit} (omega arith) ∙ n in
     ap (λ v. set c.loop-i.out 0 v) e ∙ ap (λ (o : List ℕ). set o 0 (length (nodes c.args.query))) c.loop-i.invariant.1
     ∙ begun_all line_of line_entries line_size (nodes c.args.query) c.args.out.now (get_or c.args.out.now 0 0) c.loop-i.i (length (nodes c.args.query)) (omega arith)
-
-pub offset_bounds-query-i : goal.offset_bounds-query-i
-offset_bounds-query-i c = omega (arith, within c)
-
-pub bounds-query-i : goal.bounds-query-i
-bounds-query-i c = omega (arith, within c)
-
-pub put_line-requires : goal.put_line-requires
-put_line-requires c = omega (arith, within c.before.before.before, sized c.before.before.before.before)
-
-pub bounds-out-0 : goal.bounds-out-0
-bounds-out-0 c = omega (arith, sized c.before.before)

@@ -1,4 +1,4 @@
-use Prim.Native.Nat.{◌≤◌, ◌-◌}
+use Prim.Native.Nat.{◌≤◌}
 use mathlib.Core.Bool.{false}
 use Rattle.laws.specs.Lists.{member}
 use Rattle.laws.proofs.Indexed.{Written}
@@ -8,6 +8,3 @@ use Rattle.loading.proofs.table_reader.columns_of.Given as goal
 
 abbrev pub invariant-loop-c : goal.invariant-loop-c
 invariant-loop-c l = (l.c ≤ columns) × Written false (λ k. member k (listed l.cols)) columns l.set.has l.c
-
-abbrev pub decreases-loop-c : goal.decreases-loop-c
-decreases-loop-c l = columns - l.c

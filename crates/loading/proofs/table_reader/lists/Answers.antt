@@ -2,7 +2,7 @@
 use borrow.Author.Rules.{rules}
 use native.Mathlib.Omega.{arith}
 use Prim.Native.Nat.{ℕ, ◌+◌}
-use mathlib.Core.Path.{◌≡◌, refl, ap, sym, ◌∙◌}
+use mathlib.Core.Path.{◌≡◌, ap, sym, ◌∙◌}
 use mathlib.Core.List.{◌∷◌}
 use lib.ListN.{length, drop}
 use Rattle.laws.specs.Lists.{member}
@@ -51,6 +51,3 @@ loop-k-preserved c =
 pub returns : goal.returns
 returns c =
     sym (member_none c.args.c) ∙ ap (member c.args.c) (sym (listed_end c.args.cols c.loop-k.k c.loop-k-test.false)) ∙ c.loop-k.invariant.1
-
-pub loop-k-init : goal.loop-k-init
-loop-k-init c = (omega arith, refl)

@@ -1,4 +1,4 @@
-use Prim.Native.Nat.{◌≤◌, ◌-◌}
+use Prim.Native.Nat.{◌≤◌}
 use mathlib.Core.Path.{◌≡◌}
 use lib.ListN.{length}
 use lib.Seq.{paste}
@@ -7,6 +7,3 @@ use Rattle.loading.proofs.table_reader.put_row.Given as goal
 
 abbrev pub invariant-loop-c : goal.invariant-loop-c
 invariant-loop-c l = (l.c ≤ columns) × (l.store ≡ paste l.initial.store l.at l.row.slots l.c) × (length l.store ≡ length l.initial.store)
-
-abbrev pub decreases-loop-c : goal.decreases-loop-c
-decreases-loop-c l = columns - l.c

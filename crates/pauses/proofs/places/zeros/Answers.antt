@@ -2,7 +2,7 @@
 use borrow.Author.Tests.{eq-eqb, ne_eqb}
 use native.Mathlib.Omega.{arith}
 use Prim.Native.Nat.{ℕ, ◌+◌}
-use mathlib.Core.Path.{◌≡◌, sym}
+use mathlib.Core.Path.{sym}
 use mathlib.Core.Bool.{Bool}
 use mathlib.Core.List.{List}
 use lib.Dec.{eqb}
@@ -23,11 +23,6 @@ returns-then-ws-start-ne0 c =
 pub loop-i-preserved : goal.loop-i-preserved
 loop-i-preserved c =
     (omega arith, all_more (zero c.args.ws.now c.args.start) c.loop-i.i c.loop-i.invariant.1 (eq-eqb (get_or c.args.ws.now (c.args.start + c.loop-i.i) 0) 0 c.if-ws-start-ne0.false))
-
-pub returns : goal.returns
-returns c =
-    let e : c.loop-i.i ≡ c.args.n = omega arith in
-    sym (rw e at c.loop-i.invariant.1)
 
 pub loop-i-init : goal.loop-i-init
 loop-i-init c = (omega arith, all_none _)

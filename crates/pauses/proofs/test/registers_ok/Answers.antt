@@ -97,9 +97,6 @@ room c =
 pub returns : goal.returns
 returns c d t laid = c.zeros.ensures ∙ all_passed laid (done c.before.before d t laid)
 
-pub node_at-node-requires : goal.node_at-node-requires
-node_at-node-requires c = (omega arith, c.requires.laid.few)
-
 pub overflow_mul-used : goal.overflow_mul-used
 overflow_mul-used c = omega (arith, room c.before)
 

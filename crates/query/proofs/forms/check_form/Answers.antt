@@ -6,16 +6,14 @@ use Rattle.relation.specs.Rows.{columns}
 use Rattle.database.specs.Refusals.{verdict}
 use Rattle.query.specs.Lines.{node_limit}
 use Rattle.query.proofs.FormNodes.{form_counted, form_empty, form_over}
+use Rattle.query.proofs.forms.check_form.Goals.{then-query-eq0-via-then-query-eq0, then-query-eq0-via-else-query-eq0+then-query-min}
 use Rattle.query.proofs.forms.check_form.Goals as goal
 
-pub returns-then-count-eq0 : goal.returns-then-count-eq0
-returns-then-count-eq0 c = ap verdict (sym (form_empty columns c.args.query (min c.args.limit node_limit) (omega arith)))
-
-pub returns-then-limit-count : goal.returns-then-limit-count
-returns-then-limit-count c = ap verdict (sym (form_over columns c.args.query (min c.args.limit node_limit) (omega arith)))
-
-pub returns-then-count-gt-NODES : goal.returns-then-count-gt-NODES
-returns-then-count-gt-NODES c = ap verdict (sym (form_over columns c.args.query (min c.args.limit node_limit) (omega arith)))
+pub returns-then-query-eq0 : goal.returns-then-query-eq0
+returns-then-query-eq0 c = elim c.then-query-eq0.branch [
+  | then-query-eq0-via-then-query-eq0 w ↦ ap verdict (sym (form_empty columns c.args.query (min c.args.limit node_limit) (omega (arith, w.if-query-eq0.true))))
+  | then-query-eq0-via-else-query-eq0+then-query-min w ↦ ap verdict (sym (form_over columns c.args.query (min c.args.limit node_limit) (omega (arith, w.if-query-min.true, w.min.ensures))))
+]
 
 pub returns : goal.returns
 returns c =

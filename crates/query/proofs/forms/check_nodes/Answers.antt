@@ -1,5 +1,4 @@
 -- `forms::check_nodes`: the nodes passed so far are on the form.
-use borrow.Author.Rules.{rules}
 use borrow.Author.Count.{below_more}
 use native.Mathlib.Omega.{arith}
 use native.Mathlib.Nat.{not-suc-le-zero}
@@ -19,21 +18,18 @@ After-on_form = lts.After-on_form tie.the-claims reads.Pre reads.Post goal.the-i
 -- what the test says of the node
 tested : (c : After-on_form)
     → formed columns c.args.query c.loop-i.i ≡ c.on_form.result
-tested c = sym (c.on_form.ensures ∙ ap (on_form columns) c.node_at-node.ensures)
+tested c = sym (c.on_form.ensures ∙ ap (on_form columns) c.node_at.ensures)
 
 pub loop-i-init : goal.loop-i-init
-loop-i-init c = (search rules, λ k h. absurd (not-suc-le-zero h))
+loop-i-init c k h = absurd (not-suc-le-zero h)
 
 pub returns-then-not-on_form : goal.returns-then-not-on_form
 returns-then-not-on_form c =
-    ap verdict (sym (one_unformed columns c.args.query c.loop-i.i (omega arith) (tested c.before ∙ c.if-not-on_form.true) c.loop-i.invariant.1))
+    ap verdict (sym (one_unformed columns c.args.query c.loop-i.i (omega arith) (tested c.before ∙ c.if-not-on_form.true) c.loop-i.invariant))
 
 pub loop-i-preserved : goal.loop-i-preserved
-loop-i-preserved c = (omega arith, below_more _ _ c.loop-i.invariant.1 (tested c.before ∙ c.if-not-on_form.false))
+loop-i-preserved c = below_more _ _ c.loop-i.invariant (tested c.before ∙ c.if-not-on_form.false)
 
 pub returns : goal.returns
 returns c =
-    ap verdict (sym (all_formed columns c.args.query (λ i h. c.loop-i.invariant.1 i (omega arith))))
-
-pub on_form-requires : goal.on_form-requires
-on_form-requires c = tt
+    ap verdict (sym (all_formed columns c.args.query (λ i h. c.loop-i.invariant i (omega arith))))

@@ -1,10 +1,6 @@
-use Prim.Native.Nat.{◌≤◌, ◌-◌}
 use Rattle.query.specs.Lines.{nodes}
 use Rattle.query.proofs.Starts.{ReadTo}
 use Rattle.query.proofs.shape.shape.Given as goal
 
 abbrev pub invariant-loop-i : goal.invariant-loop-i
-invariant-loop-i l = (l.i ≤ l.count) × ReadTo (nodes l.query) l.i l.start
-
-abbrev pub decreases-loop-i : goal.decreases-loop-i
-decreases-loop-i l = l.count - l.i
+invariant-loop-i l = ReadTo (nodes l.query) l.i l.start

@@ -1,6 +1,6 @@
 -- Before line i the lines from the first on have been gathered.
 use native.Mathlib.Omega.{arith}
-use Prim.Native.Nat.{ℕ, ◌-◌, ◌+◌}
+use Prim.Native.Nat.{◌-◌, ◌+◌}
 use mathlib.Core.Path.{◌≡◌, ap, sym, ◌∙◌}
 use Rattle.algebra.specs.Columns.{both}
 use Rattle.relation.specs.declared.Columns.{Columns}
@@ -11,31 +11,14 @@ use Rattle.rewrite.proofs.path.gather.Goals as goal
 
 pub loop-i-init : goal.loop-i-init
 loop-i-init c =
-    let e : c.args.first - c.args.first ≡ 0 = omega arith in (
-      omega arith,
-      omega arith,
-      c.no_columns-used.ensures ∙ sym (ap (gathered c.args.query c.args.facts c.args.v c.args.first) e ∙ gathered_none c.args.query c.args.facts c.args.v c.args.first),
-    )
-
-pub with_line-used-requires : goal.with_line-used-requires
-with_line-used-requires c = (omega arith, omega arith, c.requires.3)
+    let e : c.args.first - c.args.first ≡ 0 = omega arith in
+    c.no_columns-used.ensures ∙ sym (ap (gathered c.args.query c.args.facts c.args.v c.args.first) e ∙ gathered_none c.args.query c.args.facts c.args.v c.args.first)
 
 pub loop-i-preserved : goal.loop-i-preserved
 loop-i-preserved c =
     let e : c.loop-i.i + 1 - c.args.first ≡ (c.loop-i.i - c.args.first) + 1 = omega arith in
-    let f : c.args.first + (c.loop-i.i - c.args.first) ≡ c.loop-i.i = omega arith in (
-      omega arith,
-      omega arith,
-      c.with_line-used.ensures
-          ∙ ap (λ (s : Columns). columns_of columns (both (cols_of columns s) (uses_at c.args.query c.args.facts c.args.v c.loop-i.i))) c.loop-i.invariant.2
-          ∙ gathered_more c.args.query c.args.facts c.args.v c.args.first (c.loop-i.i - c.args.first) c.loop-i.i f
-          ∙ ap (gathered c.args.query c.args.facts c.args.v c.args.first) (sym e),
-    )
-
-pub returns : goal.returns
-returns c =
-    let e : c.loop-i.i ≡ c.args.end = omega arith in
-    c.loop-i.invariant.2 ∙ ap (λ (i : ℕ). gathered c.args.query c.args.facts c.args.v c.args.first (i - c.args.first)) e
-
-pub no_columns-used-requires : goal.no_columns-used-requires
-no_columns-used-requires c = tt
+    let f : c.args.first + (c.loop-i.i - c.args.first) ≡ c.loop-i.i = omega arith in
+    c.with_line-used.ensures
+    ∙ ap (λ (s : Columns). columns_of columns (both (cols_of columns s) (uses_at c.args.query c.args.facts c.args.v c.loop-i.i))) c.loop-i.invariant
+    ∙ gathered_more c.args.query c.args.facts c.args.v c.args.first (c.loop-i.i - c.args.first) c.loop-i.i f
+    ∙ ap (gathered c.args.query c.args.facts c.args.v c.args.first) (sym e)

@@ -21,7 +21,3 @@ pub returns-then-on_path : goal.returns-then-on_path
 returns-then-on_path c =
     ap (cols_of columns) c.no_columns.ensures ∙ columns_round columns no_cols (below_none columns)
     ∙ by_test c.args.facts c.args.v c.args.i (sym c.if-on_path.true ∙ c.on_path.ensures)
-
-pub returns : goal.returns
-returns c =
-    by_test c.args.facts c.args.v c.args.i (sym c.if-on_path.false ∙ c.on_path.ensures)

@@ -3,6 +3,7 @@ use borrow.Author.Rules.{rules}
 use Prim.Native.Nat.{ℕ}
 use mathlib.Core.Path.{◌≡◌, refl, ap, sym, ◌∙◌}
 use mathlib.Core.Bool.{false}
+use mathlib.Core.Logic.{inl, inr}
 use lib.Dec.{eqb}
 use lib.ListN.{length}
 use Rattle.algebra.specs.Columns.{with, both}
@@ -37,12 +38,6 @@ returns-in-Pair c =
     ∙ ap (λ (x : Columns). columns_of columns (both (cols_of columns c.args.used) (cols_of columns x))) c.beside.ensures
     ∙ grown_by columns (cols_of columns c.args.used) _ ∙ ap (grown c.before.before.before) (sym c.in-Pair.is)
 
-pub returns-in-Filter : goal.returns-in-Filter
-returns-in-Filter c = c.with_named.ensures ∙ ap (grown c.before.before) (sym c.in-Filter.is)
-
-pub returns-in-Copy : goal.returns-in-Copy
-returns-in-Copy c = c.with_two.ensures ∙ ap (grown c.before.before) (sym c.in-Copy.is)
-
 -- a line that names one column
 one_named : (s : Start) (n : Node) (a : ℕ) {r : Columns} → s.args.node ≡ n
     → ((e : ℕ) → line_uses (beside_at s.args.facts s.args.v s.args.i) n e ≡ eqb e a) → r ≡ columns_of columns (with (cols_of columns s.args.used) a)
@@ -50,22 +45,16 @@ one_named : (s : Start) (n : Node) (a : ℕ) {r : Columns} → s.args.node ≡ n
 one_named s n a e f h = h ∙ grown_one columns (cols_of columns s.args.used) a _ f ∙ ap (grown s) (sym e)
 
 pub returns-in-Drop : goal.returns-in-Drop
-returns-in-Drop c = one_named c.before.before _ c.in-Drop.c c.in-Drop.is (λ e. refl) c.with_column.ensures
-
-pub returns-in-Last : goal.returns-in-Last
-returns-in-Last c = one_named c.before.before _ c.in-Last.c c.in-Last.is (λ e. refl) c.with_column-in-Last.ensures
+returns-in-Drop c = elim c.in-Drop.is [
+  | inl e ↦ one_named c.before.before.before _ c.in-Drop.c e (λ i. refl) c.with_column.ensures
+  | inr e ↦ one_named c.before.before.before _ c.in-Drop.c e (λ i. refl) c.with_column.ensures
+]
 
 pub returns-in-Table : goal.returns-in-Table
-returns-in-Table c = unchanged c.before _ c.in-Table.is (λ e. refl)
-
-pub returns-in-Var : goal.returns-in-Var
-returns-in-Var c = unchanged c.before _ c.in-Var.is (λ e. refl)
-
-pub returns-in-Fact : goal.returns-in-Fact
-returns-in-Fact c = unchanged c.before _ c.in-Fact.is (λ e. refl)
-
-pub returns-in-Fix : goal.returns-in-Fix
-returns-in-Fix c = unchanged c.before _ c.in-Fix.is (λ e. refl)
-
-pub returns-in-Mu : goal.returns-in-Mu
-returns-in-Mu c = unchanged c.before _ c.in-Mu.is (λ e. refl)
+returns-in-Table c = elim c.in-Table.is [
+  | inl (_, e) ↦ unchanged c.before _ e (λ i. refl)
+  | inr (inl (_, e)) ↦ unchanged c.before _ e (λ i. refl)
+  | inr (inr (inl (_, _, e))) ↦ unchanged c.before _ e (λ i. refl)
+  | inr (inr (inr (inl (_, e)))) ↦ unchanged c.before _ e (λ i. refl)
+  | inr (inr (inr (inr (_, e)))) ↦ unchanged c.before _ e (λ i. refl)
+]

@@ -4,7 +4,7 @@ use Prim.Native.Nat.{ℕ, ◌-◌, ◌+◌}
 use mathlib.Core.Path.{◌≡◌, ap, sym, ◌∙◌}
 use mathlib.Core.List.{List}
 use lib.ListN.{length, set, get_or, drop, length-drop, length-map, get_or-map}
-use lib.Seq.{paste, paste-zero, get_or-drop}
+use lib.Seq.{paste, get_or-drop}
 use Rattle.rewrite.proofs.Splices.{copy_more}
 use Rattle.query.specs.declared.Line.{Line}
 use Rattle.query.specs.declared.Query.{Query}
@@ -13,16 +13,6 @@ use Rattle.query.proofs.Lengths.{query_length}
 use Rattle.rewrite.specs.Splices.{with_lines, renamed_line}
 use Rattle.rewrite.proofs.splice.renamed.Invariants.{source}
 use Rattle.rewrite.proofs.splice.renamed.Goals as goal
-
-pub loop-i-init : goal.loop-i-init
-loop-i-init c =
-    let e : 0 ≡ c.args.first - c.args.first = omega arith in (
-      omega arith,
-      omega arith,
-      ap (with_lines c.args.query)
-          (paste-zero c.args.query.lines c.args.first (source c.args.query c.args.first c.args.u c.args.v)
-          ∙ ap (paste c.args.query.lines c.args.first (source c.args.query c.args.first c.args.u c.args.v)) e),
-    )
 
 pub loop-i-preserved : goal.loop-i-preserved
 loop-i-preserved c =
@@ -36,15 +26,6 @@ loop-i-preserved c =
     let f : k + 1 ≡ i + 1 - c.args.first = omega arith in
     let x : line c.rename_line.result ≡ get_or vs k blank =
     ap line c.rename_line.ensures ∙ ap (λ (j : ℕ). renamed_line c.args.u c.args.v (get_or src j blank)) (sym e)
-    ∙ ap (renamed_line c.args.u c.args.v) (sym (get_or-drop c.args.first src k blank)) ∙ sym (get_or-map (renamed_line c.args.u c.args.v) (drop c.args.first src) k blank) in (
-      omega arith,
-      omega arith,
-      ap (λ (q : Query). with_lines q (set q.lines i (line c.rename_line.result))) c.loop-i.invariant.2
-          ∙ ap (with_lines c.args.query) (copy_more src c.args.first vs k i blank _ e (omega arith) (omega arith) x ∙ ap (paste src c.args.first vs) f),
-    )
-
-pub returns : goal.returns
-returns c = let e : c.loop-i.i ≡ c.args.end = omega arith in rw e at c.loop-i.invariant.2
-
-pub rename_line-requires : goal.rename_line-requires
-rename_line-requires c = tt
+    ∙ ap (renamed_line c.args.u c.args.v) (sym (get_or-drop c.args.first src k blank)) ∙ sym (get_or-map (renamed_line c.args.u c.args.v) (drop c.args.first src) k blank) in
+    ap (λ (q : Query). with_lines q (set q.lines i (line c.rename_line.result))) c.loop-i.invariant
+    ∙ ap (with_lines c.args.query) (copy_more src c.args.first vs k i blank _ e (omega arith) (omega arith) x ∙ ap (paste src c.args.first vs) f)

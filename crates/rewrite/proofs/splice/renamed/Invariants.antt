@@ -1,4 +1,4 @@
-use Prim.Native.Nat.{ℕ, ◌≤◌, ◌-◌}
+use Prim.Native.Nat.{ℕ, ◌-◌}
 use mathlib.Core.Path.{◌≡◌}
 use mathlib.Core.List.{List, map}
 use lib.ListN.{drop}
@@ -13,7 +13,4 @@ abbrev pub source : Query → ℕ → ℕ → ℕ → List Line
 source q first u v = map (renamed_line u v) (drop first q.lines)
 
 abbrev pub invariant-loop-i : goal.invariant-loop-i
-invariant-loop-i l = (l.first ≤ l.i) × (l.i ≤ l.end) × (l.out ≡ with_lines l.initial.out (paste l.initial.out.lines l.first (source l.query l.first l.u l.v) (l.i - l.first)))
-
-abbrev pub decreases-loop-i : goal.decreases-loop-i
-decreases-loop-i l = l.end - l.i
+invariant-loop-i l = l.out ≡ with_lines l.initial.out (paste l.initial.out.lines l.first (source l.query l.first l.u l.v) (l.i - l.first))

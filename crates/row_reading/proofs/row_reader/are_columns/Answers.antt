@@ -2,7 +2,7 @@
 use borrow.Author.Rules.{rules}
 use native.Mathlib.Omega.{arith}
 use Prim.Native.Nat.{ℕ, ◌+◌}
-use mathlib.Core.Path.{◌≡◌, refl, ap, sym, ◌∙◌}
+use mathlib.Core.Path.{◌≡◌, ap, sym, ◌∙◌}
 use mathlib.Core.List.{List, ◌∷◌}
 use lib.ListN.{length, drop}
 use Rattle.relation.specs.Rows.{columns}
@@ -47,9 +47,6 @@ module _ (c : After-number_at-c) where
 pub loop-k-preserved : goal.loop-k-preserved
 loop-k-preserved c =
     (omega arith, sym (within_more columns (low c.before.before) (value c.before.before) (rest c.before.before) c.if-c-low.false c.if-c-ge-COLUMNS.false) ∙ here c.before.before)
-
-pub loop-k-init : goal.loop-k-init
-loop-k-init c = (omega arith, refl)
 
 pub returns-then-c-low : goal.returns-then-c-low
 returns-then-c-low c = sym (within_low columns (low c.before) (value c.before) (rest c.before) c.if-c-low.true) ∙ here c.before ∙ within_columns columns (listed (numbers c.before))

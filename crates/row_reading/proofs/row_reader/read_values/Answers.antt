@@ -1,62 +1,59 @@
 use borrow.Author.Rules.{rules}
+use native.Mathlib.Omega.{arith}
 use Prim.Native.Nat.{ℕ, ◌≤◌}
 use mathlib.Core.Path.{◌≡◌, ap, sym, ◌∙◌}
-use mathlib.Core.Bool.{true}
 use mathlib.Core.List.{List}
 use lib.ListN.{length}
+use lib.Seq.{length-take-le}
+use Rattle.std.specs.Prelude.{Option, Some}
 use Rattle.relation.specs.Rows.{columns}
 use Rattle.text.specs.Numbers.{bytes}
 use Rattle.text.specs.Readings.{numbers_behind}
+use Rattle.text.proofs.ReaderLawsDue.{mapped_none}
 use Rattle.row_reading.specs.declared.list_reader.Numbers.{Numbers}
-use Rattle.row_reading.specs.NumberArrays.{numbers_of, few, or_empty}
-use Rattle.row_reading.specs.RowReading.{row_reply}
-use Rattle.row_reading.proofs.LineReplies.{read_none, read_other, read_same}
-use Rattle.row_reading.proofs.row_reader.read_values.Lts as lts
-use Rattle.row_reading.proofs.row_reader.read_values.Reads as reads
-use Rattle.row_reading.proofs.row_reader.read_values.Tie as tie
+use Rattle.row_reading.specs.NumberArrays.{numbers_of, listed, few}
+use Rattle.row_reading.specs.RowReading.{as_row}
+use Rattle.row_reading.proofs.LineReplies.{held, few_read, values_none, values_other, values_same, values_form}
 use Rattle.row_reading.proofs.row_reader.read_values.Goals as goal
 
-abbrev After-read_list-values : Type 0
-After-read_list-values = lts.After-read_list tie.the-claims reads.Pre reads.Post
+abbrev found : List ℕ → Option (List ℕ)
+found line = numbers_behind (bytes "row=") line
 
-abbrev Start : Type 0
-Start = lts.Start tie.the-claims reads.Pre reads.Post
+long : (cols : Numbers) → cols.count ≤ columns → length cols.values ≡ columns → length (listed cols) ≡ cols.count
+long cols h e = length-take-le cols.count cols.values (omega arith)
 
-wide : (c : Start) → length c.args.cols.values ≡ columns
-wide c = search rules
-
-module _ (c : After-read_list-values) where
-  abbrev line : List ℕ
-  line = c.args.line.now
-
-  abbrev cols : Numbers
-  cols = c.args.cols
-
-  abbrev values : Numbers
-  values = c.read_list-values.result
-
-  abbrev size : length cols.values ≡ columns
-  size = wide c.before.before.before.before
-
-  abbrev fits : cols.count ≤ columns
-  fits = c.requires
-
-  held : values ≡ numbers_of (or_empty (few columns (numbers_behind (bytes "row=") line)))
-  unfolding bytes
-  held = c.read_list-values.ensures
-
-pub returns-then-values-eq0 : goal.returns-then-values-eq0
-returns-then-values-eq0 c =
-    c.no_row.ensures ∙ ap row_reply (sym (read_none (cols c.before.before.before.before) (values c.before.before.before.before) (line c.before.before.before.before) (fits c.before.before.before.before) (size c.before.before.before.before) (held c.before.before.before.before) c.if-values-eq0.true))
+pub returns-in_err-values : goal.returns-in_err-values
+unfolding bytes
+returns-in_err-values c =
+    let wide : length c.args.cols.values ≡ columns = search rules in
+    let short = long c.args.cols c.requires wide in
+    rw (
+      values_form (listed c.args.cols) c.args.line.now,
+      values_none columns (listed c.args.cols) (found c.args.line.now) (mapped_none numbers_of (few columns (found c.args.line.now)) c.in_err-values.ensures) (omega (arith, short, c.requires)),
+    )
+    c.from_residual.ensures
 
 pub returns-then-values-cols : goal.returns-then-values-cols
+unfolding bytes
 returns-then-values-cols c =
-    c.no_row-then-values-cols.ensures
-    ∙ ap row_reply
-    (sym (read_other (cols c.before.before.before.before.before.before.before) (values c.before.before.before.before.before.before.before) (line c.before.before.before.before.before.before.before) (fits c.before.before.before.before.before.before.before) (size c.before.before.before.before.before.before.before) (held c.before.before.before.before.before.before.before) c.if-values-eq0.false c.if-values-cols.true))
+    let wide : length c.args.cols.values ≡ columns = search rules in
+    let short = long c.args.cols c.requires wide in
+    let h = held (few columns (found c.args.line.now)) c.in_ok-values.values c.in_ok-values.ensures in
+    rw (
+      values_form (listed c.args.cols) c.args.line.now,
+      (few_read columns (found c.args.line.now) _ h.read).0,
+      values_other columns (listed c.args.cols) (listed c.in_ok-values.values) (λ e. c.if-values-cols.true (h.counted ∙ e ∙ short)),
+    )
 
 pub returns : goal.returns
+unfolding bytes
 returns c =
-    ap (λ s. record { row = record { slots = s }; good = true }) c.row_of.ensures
-    ∙ ap row_reply
-    (sym (read_same (cols c.before.before.before.before.before.before.before) (values c.before.before.before.before.before.before.before) (line c.before.before.before.before.before.before.before) (fits c.before.before.before.before.before.before.before) (size c.before.before.before.before.before.before.before) (held c.before.before.before.before.before.before.before) c.if-values-eq0.false c.if-values-cols.false))
+    let wide : length c.args.cols.values ≡ columns = search rules in
+    let short = long c.args.cols c.requires wide in
+    let h = held (few columns (found c.args.line.now)) c.in_ok-values.values c.in_ok-values.ensures in
+    rw (
+      values_form (listed c.args.cols) c.args.line.now,
+      (few_read columns (found c.args.line.now) _ h.read).0,
+      values_same columns (listed c.args.cols) (listed c.in_ok-values.values) (sym h.counted ∙ c.if-values-cols.false ∙ sym short),
+    )
+    (ap (λ s. Some (as_row s)) c.row_of.ensures)

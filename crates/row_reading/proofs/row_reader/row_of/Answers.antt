@@ -42,6 +42,3 @@ returns c =
     sym (filled_all c.loop-k.row.slots (drop c.loop-k.k (listed c.args.values)))
     ∙ ap (λ cs. filled c.loop-k.row.slots cs (drop c.loop-k.k (listed c.args.values))) (sym (listed_end c.args.cols c.loop-k.k c.loop-k-test.false))
     ∙ c.loop-k.invariant.1
-
-pub loop-k-init : goal.loop-k-init
-loop-k-init c = (omega arith, refl)

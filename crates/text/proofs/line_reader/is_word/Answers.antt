@@ -1,3 +1,4 @@
+use borrow.Author.Tests.{ne_eqb}
 use mathlib.Core.Path.{sym, ◌∙◌}
 use Rattle.text.proofs.ReaderLawsForms.{word_same, word_other}
 use Rattle.text.proofs.line_reader.is_word.Goals as goal
@@ -8,4 +9,4 @@ returns-then-line-word c =
 
 pub returns-else-line-word : goal.returns-else-line-word
 returns-else-line-word c =
-    sym (word_other c.args.word.now c.args.line.now c.if-line-word.false)
+    ne_eqb _ _ c.if-line-word.false ∙ sym (word_other c.args.word.now c.args.line.now c.if-line-word.false)

@@ -2,8 +2,8 @@ use mathlib.Core.Path.{ap, sym, ◌∙◌}
 use Rattle.laws.specs.Options.{◌then◌}
 use Rattle.text.specs.Numbers.{numbers}
 use Rattle.text.specs.Lines.{if_two}
-use Rattle.text.specs.Readings.{pair_reply, paired}
-use Rattle.text.proofs.ReaderLawsLines.{after_rest, no_key, key_fits}
+use Rattle.text.specs.Readings.{paired}
+use Rattle.text.proofs.ReaderLawsLines.{after_rest, key_fits}
 use Rattle.text.proofs.line_reader.read_two.Goals as goal
 
 pub read_pair-requires : goal.read_pair-requires
@@ -13,8 +13,4 @@ read_pair-requires c =
 pub returns-then-starts : goal.returns-then-starts
 returns-then-starts c =
     c.read_pair.ensures
-    ∙ ap (λ o. pair_reply (if_two paired (o then numbers))) (sym (after_rest c.args.key.now c.args.line.now (sym c.starts.ensures ∙ c.if-starts.true)))
-
-pub returns-else-starts : goal.returns-else-starts
-returns-else-starts c =
-    ap (λ o. pair_reply (if_two paired (o then numbers))) (sym (no_key c.args.key.now c.args.line.now (sym c.starts.ensures ∙ c.if-starts.false)))
+    ∙ ap (λ o. if_two paired (o then numbers)) (sym (after_rest c.args.key.now c.args.line.now (sym c.starts.ensures ∙ c.if-starts.true)))

@@ -7,7 +7,7 @@ use Rattle.laws.proofs.FlatMaps.{flat_map_none}
 use Rattle.relation.specs.Rows.{columns as width, cols_of, rows_of}
 use Rattle.text.specs.Numbers.{bytes, comma_digits}
 use Rattle.text.specs.Texts.{line_text}
-use Rattle.output.proofs.Puts.{puts_none, puts_past, puts_then, puts_as, puts_length}
+use Rattle.output.proofs.Puts.{puts_none, puts_past, puts_then, puts_as}
 use Rattle.writing.proofs.AnswerRows.{more_rows, rows_behind, row_values}
 use Rattle.writing.proofs.answers.put_rows.Invariants.{row_text_lem}
 use Rattle.writing.proofs.answers.put_rows.Goals as goal
@@ -39,6 +39,3 @@ pub returns : goal.returns
 returns c =
     let e : c.loop-r.r ≡ c.args.count = omega arith in
     puts_as (ap (λ n. flat_map (row_text_lem c.args.columns) (rows_of width n c.args.rows.now)) e) c.loop-r.invariant.2
-
-pub shape_of-out : goal.shape_of-out
-shape_of-out c = puts_length c.loop-r.invariant.2

@@ -1,4 +1,4 @@
-use Prim.Native.Nat.{ℕ, min, ◌≤◌, ◌-◌, ◌*◌}
+use Prim.Native.Nat.{ℕ, min, ◌≤◌, ◌*◌}
 use mathlib.Core.Path.{◌≡◌}
 use mathlib.Core.List.{List, ◌++◌, map, flat_map}
 use lib.ListN.{length}
@@ -16,6 +16,3 @@ abbrev pub invariant-loop-r : goal.invariant-loop-r
 invariant-loop-r l =
     (l.r ≤ l.count) × (l.from ≡ min (width * l.r) (length l.rows))
     × Puts l.store (flat_map (row_text_lem l.columns) (rows_of width l.r l.rows)) l.at l.initial.out l.next l.out
-
-abbrev pub decreases-loop-r : goal.decreases-loop-r
-decreases-loop-r l = l.count - l.r

@@ -8,7 +8,7 @@ use Rattle.laws.specs.Lists.{when◌then◌else◌, null, sift, tabulate}
 use Rattle.relation.specs.Rows.{columns as width, slot, cols_of}
 use Rattle.text.specs.Numbers.{comma, digits, comma_digits}
 use Rattle.text.specs.Texts.{column_list}
-use Rattle.output.proofs.Puts.{puts_none, puts_then, puts_as, puts_at, puts_length}
+use Rattle.output.proofs.Puts.{puts_none, puts_then, puts_as, puts_at}
 use Rattle.writing.proofs.AnswerLines.{column_read, columns_without, value_there, not_first}
 use Rattle.writing.proofs.answers.put_values.Goals as goal
 use Rattle.writing.proofs.answers.put_values.Goals.{then-columns-c, else-columns-c}
@@ -39,6 +39,3 @@ pub returns : goal.returns
 returns c =
     let e : c.loop-c.c ≡ width = omega arith in
     puts_as (ap (λ n. comma_digits (map (slot c.args.values.now) (column_list n (cols_of width c.args.columns)))) e) c.loop-c.invariant.2
-
-pub shape_of-out : goal.shape_of-out
-shape_of-out c = puts_length c.loop-c.invariant.2

@@ -1,4 +1,4 @@
-use Prim.Native.Nat.{◌≤◌, ◌-◌}
+use Prim.Native.Nat.{◌≤◌}
 use mathlib.Core.Path.{◌≡◌}
 use mathlib.Core.List.{map}
 use Rattle.laws.specs.Lists.{null}
@@ -11,6 +11,3 @@ use Rattle.writing.proofs.answers.put_values.Given as goal
 abbrev pub invariant-loop-c : goal.invariant-loop-c
 invariant-loop-c l = (l.c ≤ width) × (l.first ≡ null (column_list l.c (cols_of width l.columns)))
     × Puts l.store (comma_digits (map (slot l.values) (column_list l.c (cols_of width l.columns)))) l.at l.initial.out l.next l.out
-
-abbrev pub decreases-loop-c : goal.decreases-loop-c
-decreases-loop-c l = width - l.c

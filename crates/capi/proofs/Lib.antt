@@ -1,4 +1,0 @@
-pub mod Rooms
-pub mod Replies
-pub mod RunReplies
-pub mod PartReplies
