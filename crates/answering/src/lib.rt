@@ -51,8 +51,7 @@ fn apply_steps(
     let mut place = 0;
     while place < steps.len() {
         let (step, next) = due_step(steps, place).ok_or(Refusal::NoMatch)?;
-        let written = rewrite(held, database, store, NODES_TAKEN, step.kind, step.node);
-        held = written.map_err(|unchanged| unchanged.refusal)?;
+        held = rewrite(held, database, store, NODES_TAKEN, step.kind, step.node)?;
         place = next;
     }
     Ok(held)

@@ -122,13 +122,9 @@ fn rewrite(
 {
     have_room(query, database)?;
     let given = decode_query(query);
-    match rewriting::rewrite(given, decode_database(database), store, limit, kind, node) {
-        Ok(next) => {
-            encode_query(next, query);
-            Ok(())
-        }
-        Err(unchanged) => Err(unchanged.refusal),
-    }
+    let next = rewriting::rewrite(given, decode_database(database), store, limit, kind, node)?;
+    encode_query(next, query);
+    Ok(())
 }
 
 // Rewrites a flat query by a kind at a node; a refusal leaves it as it was.

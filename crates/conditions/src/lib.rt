@@ -7,7 +7,7 @@ ghost use Rattle.algebra.specs.Columns.{named};
 ghost use Rattle.relation.specs.Rows.{columns, cols_of};
 ghost use Rattle.query.specs.Lines.{node_limit};
 ghost use Rattle.query.specs.FreeSets.{none_in};
-ghost use Rattle.rewrite.specs.Places.{StartsLow, free_at};
+ghost use Rattle.rewrite.specs.Places.{Sound, free_at};
 ghost use Rattle.rewrite.specs.Rewrite.{told};
 ghost use Rattle.matching.specs.Found.{Within, apart_at, filter_kept, shared_kept, others_fresh, drop_fresh, stable_at, unused_at, closed_at, judged_at};
 
@@ -16,7 +16,7 @@ use column_sets::has_column;
 use database::Refusal;
 use matching::Found;
 use origins::unstable_columns;
-use query::{Facts, Query};
+use query::{Checked, Facts};
 use relation::{COLUMNS, Columns};
 use rewrite::path::used_columns;
 use scoping::none_in;
@@ -42,21 +42,31 @@ fn apart(shared: bool, fix: Columns, other: Columns, marked: Columns) -> bool
 }
 
 // "Shared columns are stable": those of a fix and an operand, by their indices.
-fn shared_kept(query: Query, facts: Facts, fix: usize, other: usize) -> bool
-    requires { (fix < query.count) × (other < query.count) × (query.count ≤ node_limit) × StartsLow facts }
-    ensures { result ≡ shared_kept query facts fix other }
+fn shared_kept(sheet: Checked, fix: usize, other: usize) -> bool
+    requires { (fix < sheet.query.count) × (other < sheet.query.count) × Sound sheet }
+    ensures { result ≡ shared_kept sheet.query sheet.facts fix other }
 {
-    let unstable = unstable_columns(query, facts, fix);
-    apart(true, facts.columns[fix], facts.columns[other], unstable)
+    let unstable = unstable_columns(sheet, fix);
+    apart(
+        true,
+        sheet.facts.columns[fix],
+        sheet.facts.columns[other],
+        unstable,
+    )
 }
 
 // "the operand's other columns are not used"
-fn others_fresh(query: Query, facts: Facts, fix: usize, other: usize) -> bool
-    requires { (fix < query.count) × (other < query.count) × (query.count ≤ node_limit) × StartsLow facts }
-    ensures { result ≡ others_fresh query facts fix other }
+fn others_fresh(sheet: Checked, fix: usize, other: usize) -> bool
+    requires { (fix < sheet.query.count) × (other < sheet.query.count) × Sound sheet }
+    ensures { result ≡ others_fresh sheet.query sheet.facts fix other }
 {
-    let used = used_columns(query, facts, fix);
-    apart(false, facts.columns[fix], facts.columns[other], used)
+    let used = used_columns(sheet, fix);
+    apart(
+        false,
+        sheet.facts.columns[fix],
+        sheet.facts.columns[other],
+        used,
+    )
 }
 
 // A filter names no column of a set.
@@ -73,20 +83,20 @@ fn none_named(condition: Condition, cols: Columns) -> bool
 }
 
 // "The filter's columns are stable."
-fn filter_kept(query: Query, facts: Facts, condition: Condition, fix: usize) -> bool
-    requires { (fix < query.count) × (query.count ≤ node_limit) × StartsLow facts }
-    ensures { result ≡ filter_kept query facts condition fix }
+fn filter_kept(sheet: Checked, condition: Condition, fix: usize) -> bool
+    requires { (fix < sheet.query.count) × Sound sheet }
+    ensures { result ≡ filter_kept sheet.query sheet.facts condition fix }
 {
-    let unstable = unstable_columns(query, facts, fix);
+    let unstable = unstable_columns(sheet, fix);
     none_named(condition, unstable)
 }
 
 // "The column is not used."
-fn drop_fresh(query: Query, facts: Facts, column: u32, fix: usize) -> bool
-    requires { (fix < query.count) × (query.count ≤ node_limit) × StartsLow facts }
-    ensures { result ≡ drop_fresh query facts column fix }
+fn drop_fresh(sheet: Checked, column: u32, fix: usize) -> bool
+    requires { (fix < sheet.query.count) × Sound sheet }
+    ensures { result ≡ drop_fresh sheet.query sheet.facts column fix }
 {
-    let used = used_columns(query, facts, fix);
+    let used = used_columns(sheet, fix);
     !has_column(used, column as usize)
 }
 
@@ -99,65 +109,65 @@ fn is_closed(facts: Facts, i: usize) -> bool
 }
 
 // 13; "Shared columns are stable in both."
-fn stable(query: Query, facts: Facts, found: Found) -> bool
-    requires { Within query found × (query.count ≤ node_limit) × StartsLow facts }
-    ensures { result ≡ stable_at query facts found }
+fn stable(sheet: Checked, found: Found) -> bool
+    requires { Within sheet.query found × Sound sheet }
+    ensures { result ≡ stable_at sheet.query sheet.facts found }
 {
     match found {
-        Found::FilterFix(condition, fix) => filter_kept(query, facts, condition, fix),
+        Found::FilterFix(condition, fix) => filter_kept(sheet, condition, fix),
         Found::FixJoin(fix, other) | Found::JoinFix(other, fix) | Found::FixExcept(fix, other) => {
-            shared_kept(query, facts, fix, other)
+            shared_kept(sheet, fix, other)
         }
         Found::DropFix(_, _) => true,
         Found::FixFix(left, right) => {
-            shared_kept(query, facts, left, right) && shared_kept(query, facts, right, left)
+            shared_kept(sheet, left, right) && shared_kept(sheet, right, left)
         }
     }
 }
 
 // 14; "each fix's other columns are not used by the other."
-fn unused(query: Query, facts: Facts, found: Found) -> bool
-    requires { Within query found × (query.count ≤ node_limit) × StartsLow facts }
-    ensures { result ≡ unused_at query facts found }
+fn unused(sheet: Checked, found: Found) -> bool
+    requires { Within sheet.query found × Sound sheet }
+    ensures { result ≡ unused_at sheet.query sheet.facts found }
 {
     match found {
         Found::FixJoin(fix, other) | Found::JoinFix(other, fix) => {
-            others_fresh(query, facts, fix, other)
+            others_fresh(sheet, fix, other)
         }
-        Found::DropFix(column, fix) => drop_fresh(query, facts, column, fix),
+        Found::DropFix(column, fix) => drop_fresh(sheet, column, fix),
         Found::FixFix(left, right) => {
-            others_fresh(query, facts, left, right) && others_fresh(query, facts, right, left)
+            others_fresh(sheet, left, right) && others_fresh(sheet, right, left)
         }
         Found::FilterFix(_, _) | Found::FixExcept(_, _) => true,
     }
 }
 
 // 15; "In 2 to 4 the other operand must be closed."
-fn closed(query: Query, facts: Facts, found: Found) -> bool
-    requires { Within query found × (query.count ≤ node_limit) }
-    ensures { result ≡ closed_at facts found }
+fn closed(sheet: Checked, found: Found) -> bool
+    requires { Within sheet.query found × (sheet.query.count ≤ node_limit) }
+    ensures { result ≡ closed_at sheet.facts found }
 {
     match found {
         Found::FixJoin(_, other) | Found::JoinFix(other, _) | Found::FixExcept(_, other) => {
-            is_closed(facts, other)
+            is_closed(sheet.facts, other)
         }
         Found::FilterFix(_, _) | Found::DropFix(_, _) | Found::FixFix(_, _) => true,
     }
 }
 
 // "12 to 15 in order": what is found, or the first test that is not met.
-pub fn judged(query: Query, facts: Facts, found: Option<Found>) -> Result<Found, Refusal>
-    requires { IfSome found (Within query) × (query.count ≤ node_limit) × StartsLow facts }
-    ensures { result ≡ told (judged_at query facts found) }
+pub fn judged(sheet: Checked, found: Option<Found>) -> Result<Found, Refusal>
+    requires { IfSome found (Within sheet.query) × Sound sheet }
+    ensures { result ≡ told (judged_at sheet.query sheet.facts found) }
 {
     let found = found.ok_or(Refusal::NoMatch)?;
-    if !stable(query, facts, found) {
+    if !stable(sheet, found) {
         return Err(Refusal::Unstable);
     }
-    if !unused(query, facts, found) {
+    if !unused(sheet, found) {
         return Err(Refusal::Used);
     }
-    if !closed(query, facts, found) {
+    if !closed(sheet, found) {
         return Err(Refusal::OpenOperand);
     }
     Ok(found)

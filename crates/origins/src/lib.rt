@@ -3,14 +3,13 @@
 
 ghost use Rattle.std.specs.Prelude.{◌≡◌, ◌-◌, ◌≤◌, ◌<◌};
 ghost use Rattle.relation.specs.Rows.{columns, cols_of};
-ghost use Rattle.query.specs.Lines.{node_limit};
-ghost use Rattle.rewrite.specs.Places.{StartsLow};
+ghost use Rattle.rewrite.specs.Places.{Sound};
 ghost use Rattle.origins.specs.Origins.{number_at, pair_number, own_number, copied_number, dropped_number, origin_number, line_origins, step_origins, strayed, unstable_columns};
 
 use algebra::Pairing;
 use column_sets::has_column;
 use query::nodes::{node_at, preceding};
-use query::{Facts, NODES, Node, Query};
+use query::{Checked, NODES, Node};
 use relation::{COLUMNS, Columns};
 
 // Of a node's columns: for each the column of the variable that it comes from, or the number of columns where there is none.
@@ -104,9 +103,9 @@ fn line_origins(node: Node, own: Columns, last: NodeOrigins, first: NodeOrigins)
 }
 
 // Those of the nodes from an index on, up to another: the right operand of a node ends just before it, the left one before the right one starts.
-fn step_origins(query: Query, facts: Facts, start: usize, end: usize) -> [NodeOrigins; NODES]
-    requires { (start ≤ end) × (end ≤ query.count) × (query.count ≤ node_limit) × StartsLow facts }
-    ensures { result ≡ step_origins query facts start end }
+fn step_origins(sheet: Checked, start: usize, end: usize) -> [NodeOrigins; NODES]
+    requires { (start ≤ end) × (end ≤ sheet.query.count) × Sound sheet }
+    ensures { result ≡ step_origins sheet.query sheet.facts start end }
 {
     let none = NodeOrigins {
         from: [COLUMNS; COLUMNS],
@@ -114,9 +113,9 @@ fn step_origins(query: Query, facts: Facts, start: usize, end: usize) -> [NodeOr
     let mut held = [none; NODES];
     for i in start..end {
         let right = preceding(i);
-        let left = preceding(facts.start[right]);
-        let node = node_at(query, i);
-        held[i] = line_origins(node, facts.columns[i], held[right], held[left]);
+        let left = preceding(sheet.facts.start[right]);
+        let node = node_at(sheet.query, i);
+        held[i] = line_origins(node, sheet.facts.columns[i], held[right], held[left]);
     }
     held
 }
@@ -135,11 +134,11 @@ fn strayed(held: NodeOrigins) -> Columns
 }
 
 // "A column is stable if the step's result has it with itself as origin": of the step of the fix of an index, the columns that are not.
-pub fn unstable_columns(query: Query, facts: Facts, fix: usize) -> Columns
-    requires { (fix < query.count) × (query.count ≤ node_limit) × StartsLow facts }
-    ensures { result ≡ unstable_columns query facts fix }
+pub fn unstable_columns(sheet: Checked, fix: usize) -> Columns
+    requires { (fix < sheet.query.count) × Sound sheet }
+    ensures { result ≡ unstable_columns sheet.query sheet.facts fix }
 {
     let last = preceding(fix);
-    let held = step_origins(query, facts, facts.start[last], fix);
+    let held = step_origins(sheet, sheet.facts.start[last], fix);
     strayed(held[last])
 }

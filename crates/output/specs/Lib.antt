@@ -1,2 +1,2 @@
 pub mod Replies
-pub mod Output
+pub mod Sinks

@@ -13,7 +13,7 @@ use super::find::{left_end, right_end};
 use algebra::Condition;
 use column_sets::names_held;
 use database::Refusal;
-use query::{Facts, Query};
+use query::{Checked, Facts, Query};
 
 // 2, "if the sheet, once split, is already at the node limit"
 fn has_room(query: Query, limit: usize, found: Passed) -> bool
@@ -31,33 +31,32 @@ fn side_holds(facts: Facts, side: usize, condition: Condition) -> bool
 }
 
 // 22, "the named side lacks a column of the filter"
-fn has_side(query: Query, facts: Facts, i: usize, found: Passed) -> bool
-    requires { (i < node_limit) × StartsLow facts }
-    ensures { result ≡ side_at query facts i found }
+fn has_side(sheet: Checked, i: usize, found: Passed) -> bool
+    requires { (i < node_limit) × StartsLow sheet.facts }
+    ensures { result ≡ side_at sheet.query sheet.facts i found }
 {
     match found {
-        Passed::PastLeft(condition) => side_holds(facts, left_end(facts, i), condition),
-        Passed::PastRight(condition) => side_holds(facts, right_end(i), condition),
+        Passed::PastLeft(condition) => side_holds(sheet.facts, left_end(sheet.facts, i), condition),
+        Passed::PastRight(condition) => side_holds(sheet.facts, right_end(i), condition),
         _ => true,
     }
 }
 
 // 12, then 2 and 22: what is found, or the first test that is not met.
 pub fn judged(
-    query: Query,
-    facts: Facts,
+    sheet: Checked,
     limit: usize,
     i: usize,
     found: Option<Passed>,
 ) -> Result<Passed, Refusal>
-    requires { (i < node_limit) × StartsLow facts }
-    ensures { result ≡ told (pass_judged limit query facts i found) }
+    requires { (i < node_limit) × StartsLow sheet.facts }
+    ensures { result ≡ told (pass_judged limit sheet.query sheet.facts i found) }
 {
     let found = found.ok_or(Refusal::NoMatch)?;
-    if !has_room(query, limit, found) {
+    if !has_room(sheet.query, limit, found) {
         return Err(Refusal::NodeCount(0));
     }
-    if !has_side(query, facts, i, found) {
+    if !has_side(sheet, i, found) {
         return Err(Refusal::SideLacks);
     }
     Ok(found)

@@ -1,7 +1,7 @@
 // The sheet that a rule writes, and the step: 12, then 2 and 22.
 ghost use Rattle.std.specs.Prelude.{◌≡◌, true, ◌<◌, ◌≤◌};
 ghost use Rattle.query.specs.Lines.{node_limit};
-ghost use Rattle.rewrite.specs.Places.{StartsLow};
+ghost use Rattle.rewrite.specs.Places.{Sound, StartsLow};
 ghost use Rattle.rewrite.specs.Rewrite.{rewritten};
 ghost use Rattle.passing.specs.Passing.{room_at, left_at, lowered_at, both_at, pass_written, pass_reply};
 
@@ -10,16 +10,16 @@ use super::find::{passed_at, right_start};
 use super::judge::judged;
 use algebra::Condition;
 use query::nodes::preceding;
-use query::{Facts, Node, Query};
+use query::{Checked, Node, Query};
 use rewrite::Unchanged;
 use rewrite::splice::{exchange, insert};
 
 // Kinds 8 and 10: the filter moves before the right side's first line.
-fn to_left(query: Query, facts: Facts, i: usize) -> Query
-    requires { (i < node_limit) × StartsLow facts }
-    ensures { result ≡ left_at query facts i }
+fn to_left(sheet: Checked, i: usize) -> Query
+    requires { (i < node_limit) × StartsLow sheet.facts }
+    ensures { result ≡ left_at sheet.query sheet.facts i }
 {
-    exchange(query, right_start(facts, i), i, i + 1)
+    exchange(sheet.query, right_start(sheet.facts, i), i, i + 1)
 }
 
 // Kinds 9 and 11: the filter and the line that it takes are exchanged.
@@ -31,40 +31,41 @@ fn lowered(query: Query, i: usize) -> Query
 }
 
 // Kind 7: a second filter before the right side's first line, and the first one, now a line further, at the right side.
-fn to_both(query: Query, facts: Facts, i: usize, condition: Condition) -> Query
-    requires { (i < query.count) × (query.count < node_limit) × StartsLow facts }
-    ensures { result ≡ both_at query facts i condition }
+fn to_both(sheet: Checked, i: usize, condition: Condition) -> Query
+    requires { (i < sheet.query.count) × (sheet.query.count < node_limit) × StartsLow sheet.facts }
+    ensures { result ≡ both_at sheet.query sheet.facts i condition }
 {
-    let two = insert(query, right_start(facts, i), Node::Filter(condition));
+    let two = insert(
+        sheet.query,
+        right_start(sheet.facts, i),
+        Node::Filter(condition),
+    );
     lowered(two, i + 1)
 }
 
 // The sheet that the rule writes at the node of an index, if a node more has room where the kind adds one.
-fn written(query: Query, facts: Facts, i: usize, found: Passed) -> Query
-    requires { (i < query.count) × (query.count ≤ node_limit) × (room_at node_limit query found ≡ true) × StartsLow facts }
-    ensures { result ≡ pass_written query facts i found }
+fn written(sheet: Checked, i: usize, found: Passed) -> Query
+    requires { (i < sheet.query.count) × (room_at node_limit sheet.query found ≡ true) × Sound sheet }
+    ensures { result ≡ pass_written sheet.query sheet.facts i found }
 {
     match found {
-        Passed::PastUnion(condition) => to_both(query, facts, i, condition),
-        Passed::PastLeft(_) | Passed::PastExcept => to_left(query, facts, i),
-        Passed::PastRight(_) | Passed::PastFilter => lowered(query, i),
+        Passed::PastUnion(condition) => to_both(sheet, i, condition),
+        Passed::PastLeft(_) | Passed::PastExcept => to_left(sheet, i),
+        Passed::PastRight(_) | Passed::PastFilter => lowered(sheet.query, i),
     }
 }
 
 // The step of a kind from 7 to 11 at the node of an index of a checked query: the rule's query, or the query as given beside the refusal. No node count over
 // `limit` is written.
-pub fn pass(
-    query: Query,
-    facts: Facts,
-    limit: usize,
-    kind: u32,
-    i: usize,
-) -> Result<Query, Unchanged>
-    requires { (i < query.count) × (query.count ≤ node_limit) × (limit ≤ node_limit) × StartsLow facts }
-    ensures { result ≡ rewritten query (pass_reply limit query facts kind i) }
+pub fn pass(sheet: Checked, limit: usize, kind: u32, i: usize) -> Result<Query, Unchanged>
+    requires { (i < sheet.query.count) × (limit ≤ node_limit) × Sound sheet }
+    ensures { result ≡ rewritten sheet.query (pass_reply limit sheet.query sheet.facts kind i) }
 {
-    match judged(query, facts, limit, i, passed_at(query, kind, i)) {
-        Ok(found) => Ok(written(query, facts, i, found)),
-        Err(refusal) => Err(Unchanged { query, refusal }),
+    match judged(sheet, limit, i, passed_at(sheet.query, kind, i)) {
+        Ok(found) => Ok(written(sheet, i, found)),
+        Err(refusal) => Err(Unchanged {
+            query: sheet.query,
+            refusal,
+        }),
     }
 }

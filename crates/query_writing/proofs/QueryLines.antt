@@ -1,7 +1,6 @@
 -- The lines of a query, as they are put one after the other.
 use mathlib.Core.Path.{◌≡◌, ap, sym, ◌∙◌}
-use mathlib.Core.Bool.{Bool}
-use mathlib.Core.List.{List, ◌++◌, flat_map}
+use mathlib.Core.List.{◌++◌, flat_map}
 use Prim.Native.Nat.{ℕ, min, ◌+◌, ◌<◌}
 use lib.ListN.{length, take, get_or, length-map, length-take, get_or-map}
 use lib.Seq.{get_or-take}
@@ -13,12 +12,11 @@ use Rattle.query.specs.declared.Query.{Query}
 use Rattle.query.specs.Lines.{nodes, node_limit, blank}
 use Rattle.text.specs.Lines.{node_text}
 use Rattle.text.specs.Texts.{line_text}
-use Rattle.output.specs.Output.{Puts}
+use Rattle.output.specs.Sinks.{Puts}
 use Rattle.output.proofs.Puts.{puts_as}
 
 -- the line of a node whose case is known
-pub puts_node : {store : Bool} {at : ℕ} {slice : List ℕ} {next : ℕ} {after : List ℕ} {x y : Node}
-    → x ≡ y → Puts store (line_text (node_text y)) at slice next after → Puts store (line_text (node_text x)) at slice next after
+pub puts_node : {S : Type 0} {put : S → ℕ → S} {s t : S} {x y : Node} → x ≡ y → Puts put (line_text (node_text y)) s t → Puts put (line_text (node_text x)) s t
 puts_node e p = puts_as (ap (λ n. line_text (node_text n)) (sym e)) p
 
 module _ (q : Query) where

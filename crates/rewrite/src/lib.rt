@@ -2,6 +2,8 @@
 // for a query that has been checked.
 #![tactic(auto)]
 
+ghost use Rattle.std.specs.Prelude.{◌≡◌};
+
 use database::Refusal;
 use query::Query;
 
@@ -14,4 +16,13 @@ pub mod splice; // splice.rt: the moves of lines by which the rules write their 
 pub struct Unchanged {
     pub query: Query,
     pub refusal: Refusal,
+}
+
+// What a `?` tells of it, where the query as given is of no use.
+impl From<Unchanged> for Refusal {
+    ghost from_gives = { λ unchanged refusal. refusal ≡ unchanged.refusal };
+
+    fn from(unchanged: Unchanged) -> Refusal {
+        unchanged.refusal
+    }
 }

@@ -1,3 +1,4 @@
 pub mod StepExact
 pub mod Checks
 pub mod Handing
+pub mod Judged

@@ -22,13 +22,12 @@ pub fn rewrite(
 ) -> Result<Query, Unchanged>
     ensures { result ≡ rewritten query (rewrite columns (min limit node_limit) query database store.now kind node) }
 {
-    match check(query, database, store, limit) {
-        Err(refusal) => Err(Unchanged { query, refusal }),
-        Ok(checked) => {
-            match rewrite_checked(checked.query, checked.facts, limit.min(NODES), kind, node) {
-                Ok(written) => Ok(written),
-                Err(split) => Err(Unchanged { query, ..split }),
-            }
-        }
-    }
+    let checked = check(query, database, store, limit).map_err(|refusal| Unchanged {
+        query,
+        refusal,
+    })?;
+    rewrite_checked(checked, limit.min(NODES), kind, node).map_err(|split| Unchanged {
+        query,
+        ..split
+    })
 }

@@ -6,11 +6,11 @@ ghost use Rattle.relation.specs.Rows.{columns as width, slot, cols_of, rows_of};
 ghost use Rattle.text.specs.Numbers.{bytes, comma, digits, comma_digits};
 ghost use Rattle.text.specs.Texts.{line_text, column_list, answer_text};
 ghost use Rattle.output.specs.Replies.{write_reply, slice_after};
-ghost use Rattle.output.specs.Output.{Puts};
+ghost use Rattle.output.specs.Sinks.{Puts};
 ghost use Rattle.writing.specs.Rooms.{answer_room};
 
 use database::Refusal;
-use output::{put_byte, put_bytes, put_number, put_one};
+use output::{Lent, Measure, Sink, put_bytes, put_number, put_one};
 use relation::{COLUMNS, Columns};
 
 // An entry that isn't there reads as 0.
@@ -20,48 +20,37 @@ fn entry(values: &[u32], c: usize) -> u32
     if c < values.len() { values[c] } else { 0 }
 }
 
-fn put_value(first: bool, n: usize, at: usize, store: bool, out: &mut [u8]) -> usize
-    ensures { Puts store (when first then digits n else comma ∷ digits n) at out.old result out.new }
+fn put_value<S: Sink>(first: bool, n: usize, sink: &mut S)
+    ensures { Puts S.put (when first then digits n else comma ∷ digits n) sink.old sink.new }
 {
     if first {
-        return put_number(n, at, store, out);
+        return put_number(n, sink);
     }
-    let next = put_byte(44, at, store, out);
-    put_number(n, next, store, out)
+    sink.put_byte(44);
+    put_number(n, sink)
 }
 
 // The values of a set's columns, with commas between.
-fn put_values(columns: Columns, values: &[u32], at: usize, store: bool, out: &mut [u8]) -> usize
-    ensures { Puts store (comma_digits (map (slot values.now) (column_list width (cols_of width columns))))
-        at out.old result out.new }
+fn put_values<S: Sink>(columns: Columns, values: &[u32], sink: &mut S)
+    ensures { Puts S.put (comma_digits (map (slot values.now) (column_list width (cols_of width columns)))) sink.old sink.new }
 {
     let mut first = true;
-    let mut next = at;
     for c in 0..COLUMNS {
         if columns.has[c] {
             let n = entry(values, c) as usize;
-            next = put_value(first, n, next, store, out);
+            put_value(first, n, sink);
             first = false;
         }
     }
-    next
 }
 
 // A line of a key and the values of a set's columns.
-fn put_row(
-    key: &[u8],
-    columns: Columns,
-    values: &[u32],
-    at: usize,
-    store: bool,
-    out: &mut [u8],
-) -> usize
-    ensures { Puts store (line_text (key.now ++ comma_digits (map (slot values.now) (column_list width (cols_of width columns)))))
-        at out.old result out.new }
+fn put_row<S: Sink>(key: &[u8], columns: Columns, values: &[u32], sink: &mut S)
+    ensures { Puts S.put (line_text (key.now ++ comma_digits (map (slot values.now) (column_list width (cols_of width columns))))) sink.old sink.new }
 {
-    let first = put_bytes(key, at, store, out);
-    let end = put_values(columns, values, first, store, out);
-    put_byte(10, end, store, out)
+    put_bytes(key, sink);
+    put_values(columns, values, sink);
+    sink.put_byte(10)
 }
 
 // Where the next row begins, or the end of the entries.
@@ -72,28 +61,19 @@ fn next_row(from: usize, entries: usize) -> usize
     from + COLUMNS.min(entries - from)
 }
 
-// The lines of the rows. Once the text passes the slice's end, no row behind it can change that.
-fn put_rows(
-    columns: Columns,
-    rows: &[u32],
-    count: usize,
-    at: usize,
-    store: bool,
-    out: &mut [u8],
-) -> usize
-    ensures { Puts store (flat_map (λ x. line_text (bytes "row=" ++ comma_digits (map (slot x) (column_list width (cols_of width columns)))))
-        (rows_of width count rows.now)) at out.old result out.new }
+// The lines of the rows. Once the sink is over, no row behind it can change that.
+fn put_rows<S: Sink>(columns: Columns, rows: &[u32], count: usize, sink: &mut S)
+    ensures { Puts S.put (flat_map (λ x. line_text (bytes "row=" ++ comma_digits (map (slot x) (column_list width (cols_of width columns)))))
+        (rows_of width count rows.now)) sink.old sink.new }
 {
-    let mut next = at;
     let mut from = 0;
     for r in 0..count {
-        if out.len() < next {
-            return next;
+        if sink.is_over() {
+            return;
         }
-        next = put_row(b"row=", columns, &rows[from..], next, store, out);
+        put_row(b"row=", columns, &rows[from..], sink);
         from = next_row(from, rows.len());
     }
-    next
 }
 
 // The columns' numbers, in the place of a row's values.
@@ -107,22 +87,15 @@ fn column_numbers() -> [u32; COLUMNS]
     numbers
 }
 
-fn put_answer(
-    columns: Columns,
-    rows: &[u32],
-    count: usize,
-    ran: u32,
-    store: bool,
-    out: &mut [u8],
-) -> usize
-    ensures { Puts store (answer_text width columns (rows_of width count rows.now) ran) 0 out.old result out.new }
+fn put_answer<S: Sink>(columns: Columns, rows: &[u32], count: usize, ran: u32, sink: &mut S)
+    ensures { Puts S.put (answer_text width columns (rows_of width count rows.now) ran) sink.old sink.new }
 {
     let numbers = column_numbers();
-    let second = put_bytes(b"guide=1\n", 0, store, out);
-    let third = put_row(b"cols=", columns, &numbers, second, store, out);
-    let fourth = put_one(b"rows=", count, third, store, out);
-    let last = put_rows(columns, rows, count, fourth, store, out);
-    put_one(b"ran=", ran as usize, last, store, out)
+    put_bytes(b"guide=1\n", sink);
+    put_row(b"cols=", columns, &numbers, sink);
+    put_one(b"rows=", count, sink);
+    put_rows(columns, rows, count, sink);
+    put_one(b"ran=", ran as usize, sink)
 }
 
 // "header, columns, row count, rows ascending, lines run". The rows' entries stand one row behind the other; those that aren't there read as 0.
@@ -137,10 +110,11 @@ pub fn write_answer(
         × (out.new ≡ slice_after (answer_text width columns (rows_of width count rows.now) ran) out.old)
         × (length (answer_text width columns (rows_of width count rows.now) ran) ≤ answer_room width count) }
 {
-    let size = put_answer(columns, rows, count, ran, false, out);
-    if out.len() < size {
+    let mut measure = Measure::of(out);
+    put_answer(columns, rows, count, ran, &mut measure);
+    if out.len() < measure.size {
         return Err(Refusal::ShortSlice);
     }
-    put_answer(columns, rows, count, ran, true, out);
-    Ok(size)
+    put_answer(columns, rows, count, ran, &mut Lent { out, at: 0 });
+    Ok(measure.size)
 }

@@ -2,20 +2,20 @@
 ghost use Rattle.std.specs.Prelude.{◌≡◌, ◌≤◌, length};
 ghost use Rattle.text.specs.Texts.{refusal_text};
 ghost use Rattle.output.specs.Replies.{write_reply, slice_after};
-ghost use Rattle.output.specs.Output.{Puts};
+ghost use Rattle.output.specs.Sinks.{Puts};
 ghost use Rattle.writing.specs.Rooms.{refusal_room};
 
 use database::Refusal;
-use output::put_two;
+use output::{Lent, Measure, Sink, put_two};
 use refusals::{refusal_number, refusal_place};
 
-fn put_refusal(r: Refusal, store: bool, out: &mut [u8]) -> usize
-    ensures { Puts store (refusal_text r) 0 out.old result out.new
+fn put_refusal<S: Sink>(r: Refusal, sink: &mut S)
+    ensures { Puts S.put (refusal_text r) sink.old sink.new
         × (length (refusal_text r) ≤ refusal_room) }
 {
     let number = refusal_number(r) as usize;
     let place = refusal_place(r);
-    put_two(b"refused=", number, place, 0, store, out)
+    put_two(b"refused=", number, place, sink)
 }
 
 // "A refusal prints `refused=number,place`"
@@ -24,10 +24,11 @@ pub fn write_refusal(r: Refusal, out: &mut [u8]) -> Result<usize, Refusal>
         × (out.new ≡ slice_after (refusal_text r) out.old)
         × (length (refusal_text r) ≤ refusal_room) }
 {
-    let size = put_refusal(r, false, out);
-    if out.len() < size {
+    let mut measure = Measure::of(out);
+    put_refusal(r, &mut measure);
+    if out.len() < measure.size {
         return Err(Refusal::ShortSlice);
     }
-    put_refusal(r, true, out);
-    Ok(size)
+    put_refusal(r, &mut Lent { out, at: 0 });
+    Ok(measure.size)
 }

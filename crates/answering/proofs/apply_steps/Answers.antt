@@ -20,7 +20,7 @@ returns-in_err-step c =
 pub returns-in_err-held : goal.returns-in_err-held
 returns-in_err-held c =
     let some : c.due_step.result ≡ Some (c.in_ok-step.step, c.in_ok-step.next) = search rules in
-    due_fails _ _ _ _ _ _ c.loop-place.invariant c.loop-place-test.true c.in_ok-step.step c.in_ok-step.next (λ n. sym some ∙ c.due_step.ensures n) c.rewrite-written.ensures (search rules)
+    due_fails _ _ _ _ _ _ c.loop-place.invariant c.loop-place-test.true c.in_ok-step.step c.in_ok-step.next (λ n. sym some ∙ c.due_step.ensures n) c.rewrite.ensures (search rules)
 
 pub loop-place-smaller : goal.loop-place-smaller
 loop-place-smaller c =
@@ -31,9 +31,9 @@ loop-place-smaller c =
 pub loop-place-preserved : goal.loop-place-preserved
 loop-place-preserved c =
     let some : c.due_step.result ≡ Some (c.in_ok-step.step, c.in_ok-step.next) = search rules in
-    let written : c.rewrite-written.result ≡ Ok c.in_ok-held.held = search rules in
+    let written : c.rewrite.result ≡ Ok c.in_ok-held.held = search rules in
     due_more _ _ _ _ _ _ c.loop-place.invariant c.loop-place-test.true c.in_ok-step.step c.in_ok-step.next (λ n. sym some ∙ c.due_step.ensures n) c.in_ok-held.held
-    (rewrite_accepted c.loop-place.held _ (sym written ∙ c.rewrite-written.ensures))
+    (rewrite_accepted c.loop-place.held _ (sym written ∙ c.rewrite.ensures))
 
 pub returns : goal.returns
 returns c = ap told (sym (due_none _ _ _ _ _ _ c.loop-place.invariant c.loop-place-test.false))

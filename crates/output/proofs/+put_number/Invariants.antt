@@ -1,4 +1,4 @@
 use Rattle.output.proofs.+put_number.Given as goal
 
 abbrev pub decreases-put_number : goal.decreases-put_number
-decreases-put_number l = l.n
+decreases-put_number g l = l.n

@@ -13,6 +13,6 @@ unfolding comma_digits
 two_line key m n = simp append_assoc
 
 pub returns : goal.returns
-returns c =
+returns g c =
     puts_as (two_line c.args.key.now c.args.m c.args.n)
-    (puts_then (puts_then c.put_bytes-first.ensures c.put_number-second.ensures) c.put_one.ensures)
+    (puts_then (puts_then c.put_bytes.ensures c.put_number.ensures) c.put_one.ensures)

@@ -8,16 +8,16 @@ use Rattle.query_writing.proofs.put_filter.Goals as goal
 
 pub returns-in-Eq : goal.returns-in-Eq
 unfolding node_text bytes
-returns-in-Eq c = puts_node (ap Filter c.in-Eq.is) c.put_two.ensures
+returns-in-Eq g c = puts_node (ap Filter c.in-Eq.is) c.put_two.ensures
 
 pub returns-in-Ne : goal.returns-in-Ne
 unfolding node_text bytes
-returns-in-Ne c = puts_node (ap Filter c.in-Ne.is) c.put_two-in-Ne.ensures
+returns-in-Ne g c = puts_node (ap Filter c.in-Ne.is) c.put_two-in-Ne.ensures
 
 pub returns-in-Max : goal.returns-in-Max
 unfolding node_text bytes
-returns-in-Max c = puts_node (ap Filter c.in-Max.is) c.put_two-in-Max.ensures
+returns-in-Max g c = puts_node (ap Filter c.in-Max.is) c.put_two-in-Max.ensures
 
 pub returns-in-Same : goal.returns-in-Same
 unfolding node_text bytes
-returns-in-Same c = puts_node (ap Filter c.in-Same.is) c.put_two-in-Same.ensures
+returns-in-Same g c = puts_node (ap Filter c.in-Same.is) c.put_two-in-Same.ensures

@@ -8,12 +8,12 @@ use Rattle.query_writing.proofs.put_pair.Goals as goal
 
 pub returns-in-Union : goal.returns-in-Union
 unfolding node_text bytes
-returns-in-Union c = puts_node (ap Pair c.in-Union.is) c.put_bytes.ensures
+returns-in-Union g c = puts_node (ap Pair c.in-Union.is) c.put_bytes.ensures
 
 pub returns-in-Join : goal.returns-in-Join
 unfolding node_text bytes
-returns-in-Join c = puts_node (ap Pair c.in-Join.is) c.put_bytes-in-Join.ensures
+returns-in-Join g c = puts_node (ap Pair c.in-Join.is) c.put_bytes-in-Join.ensures
 
 pub returns-in-Except : goal.returns-in-Except
 unfolding node_text bytes
-returns-in-Except c = puts_node (ap Pair c.in-Except.is) c.put_bytes-in-Except.ensures
+returns-in-Except g c = puts_node (ap Pair c.in-Except.is) c.put_bytes-in-Except.ensures

@@ -6,6 +6,6 @@ use Rattle.query_writing.proofs.put_query.Goals as goal
 
 pub returns : goal.returns
 unfolding query_text bytes
-returns c =
+returns g c =
     puts_as (rw c.line_count.ensures)
-    (puts_then c.put_bytes-second.ensures (puts_then c.put_one-first.ensures c.put_lines.ensures))
+    (puts_then c.put_bytes.ensures (puts_then c.put_one.ensures c.put_lines.ensures))

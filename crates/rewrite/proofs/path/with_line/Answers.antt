@@ -26,5 +26,5 @@ off D f e = rw f
 
 pub returns-else-on_path : goal.returns-else-on_path
 returns-else-on_path c =
-    let f : on_path c.args.facts c.args.v c.args.i ≡ false = sym c.on_path.ensures ∙ c.if-on_path.false in
-    grown_none columns c.args.used (size c.before.before) (uses_at c.args.query c.args.facts c.args.v c.args.i) (off _ f)
+    let f : on_path c.args.sheet.facts c.args.v c.args.i ≡ false = sym c.on_path.ensures ∙ c.if-on_path.false in
+    grown_none columns c.args.used (size c.before.before.before) (uses_at c.args.sheet.query c.args.sheet.facts c.args.v c.args.i) (off _ f)

@@ -12,7 +12,6 @@ pub apply-requires : goal.apply-requires
 apply-requires c =
     let (p, _) = c.requires in (
       omega arith,
-      subst (λ (o : Option Found). IfSome o (Fits c.args.facts (c.args.node - 1))) (sym c.find.ensures) (found_fits c.args.query c.args.facts p c.args.kind (c.args.node - 1)),
-      p.fits,
-      p.low,
+      subst (λ (o : Option Found). IfSome o (Fits c.args.sheet.facts (c.args.node - 1))) (sym c.find.ensures) (found_fits c.args.sheet.query c.args.sheet.facts p c.args.kind (c.args.node - 1)),
+      (p.fits, p.low),
     )

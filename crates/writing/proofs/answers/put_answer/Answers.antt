@@ -11,12 +11,12 @@ use Rattle.writing.proofs.answers.put_answer.Goals as goal
 
 pub returns : goal.returns
 unfolding answer_text rows_text bytes
-returns c =
+returns g c =
     let cs = column_list width (cols_of width c.args.columns) in
-    puts_then c.put_bytes-second.ensures
+    puts_then c.put_bytes.ensures
     (puts_then
     (puts_then
     (puts_as (ap (λ l. line_text (bytes "cols=" ++ comma_digits l)) (ap (λ l. map (slot l) cs) c.column_numbers-numbers.ensures ∙ numbers_read width (cols_of width c.args.columns)))
-    c.put_row-third.ensures)
-    (puts_then (puts_as (ap (λ n. line_text (bytes "rows=" ++ digits n)) (sym (rows_of_length width c.args.count c.args.rows.now))) c.put_one-fourth.ensures) c.put_rows-last.ensures))
-    c.put_one.ensures)
+    c.put_row.ensures)
+    (puts_then (puts_as (ap (λ n. line_text (bytes "rows=" ++ digits n)) (sym (rows_of_length width c.args.count c.args.rows.now))) c.put_one.ensures) c.put_rows.ensures))
+    c.put_one-2.ensures)

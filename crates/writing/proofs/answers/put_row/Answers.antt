@@ -1,7 +1,7 @@
 -- `put_row` meets its contract: the key, the values and byte 10 one behind the other.
-use Rattle.output.proofs.Puts.{puts_then}
+use Rattle.output.proofs.Puts.{puts_byte, puts_then}
 use Rattle.writing.proofs.answers.put_row.Goals as goal
 
 pub returns : goal.returns
-returns c =
-    puts_then (puts_then c.put_bytes-first.ensures c.put_values-end.ensures) c.put_byte.ensures
+returns g c =
+    puts_then (puts_then c.put_bytes.ensures c.put_values.ensures) (puts_byte c.put_byte.ensures)

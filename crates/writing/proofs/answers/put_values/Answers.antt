@@ -15,10 +15,10 @@ use Rattle.writing.proofs.answers.put_values.Goals.{then-columns-c, else-columns
 
 pub loop-c-init : goal.loop-c-init
 unfolding sift tabulate comma_digits
-loop-c-init c = (search rules, refl, puts_none)
+loop-c-init g c = (search rules, refl, puts_none)
 
 pub loop-c-preserved : goal.loop-c-preserved
-loop-c-preserved c =
+loop-c-preserved g c =
     let n : ℕ = c.loop-c.c in
     let f = slot c.args.values.now in
     let D = cols_of width c.args.columns in
@@ -27,15 +27,15 @@ loop-c-preserved c =
           let e = column_read width c.args.columns n (omega arith) w.if-columns-c.true in (
             omega arith,
             w.first-is ∙ not_first f D n c.loop-c.first e,
-            puts_at w.next-is w.out-is (puts_as (ap (λ v. comma_digits (map f (column_list n D)) ++ (when c.loop-c.first then digits v else comma ∷ digits v)) w.entry-n.ensures
-                ∙ value_there f D n c.loop-c.first e c.loop-c.invariant.1) (puts_then c.loop-c.invariant.2 w.put_value-next.ensures)),
+            puts_at w.sink-is (puts_as (ap (λ v. comma_digits (map f (column_list n D)) ++ (when c.loop-c.first then digits v else comma ∷ digits v)) w.entry-n.ensures
+                ∙ value_there f D n c.loop-c.first e c.loop-c.invariant.1) (puts_then c.loop-c.invariant.2 w.put_value.ensures)),
           )
       | else-columns-c w ↦
           let e = columns_without D n (column_read width c.args.columns n (omega arith) w.if-columns-c.false) in
-          (omega arith, w.first-is ∙ c.loop-c.invariant.1 ∙ ap null (sym e), puts_at w.next-is w.out-is (puts_as (ap (λ l. comma_digits (map f l)) (sym e)) c.loop-c.invariant.2))
+          (omega arith, w.first-is ∙ c.loop-c.invariant.1 ∙ ap null (sym e), puts_at w.sink-is (puts_as (ap (λ l. comma_digits (map f l)) (sym e)) c.loop-c.invariant.2))
     ]
 
 pub returns : goal.returns
-returns c =
+returns g c =
     let e : c.loop-c.c ≡ width = omega arith in
     puts_as (ap (λ n. comma_digits (map (slot c.args.values.now) (column_list n (cols_of width c.args.columns)))) e) c.loop-c.invariant.2

@@ -8,7 +8,7 @@ use Rattle.writing.proofs.refused.put_refusal.Goals as goal
 
 pub returns : goal.returns
 unfolding refusal_text bytes
-returns c = (
+returns g c = (
   puts_as (rw (c.refusal_place-place.ensures, c.refusal_number-number.ensures)) c.put_two.ensures,
   refusal_room_lem c.args.r (omega (arith, c.refusal_place-place.type_inv, c.refusal_place-place.ensures)),
 )
