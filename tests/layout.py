@@ -155,6 +155,22 @@ def bytes_are_classed_in_one_place():
     return bad
 
 
+def stages_are_taken_apart():
+    """Each stage's answer of `answer` and `path` by `let .. else`, which prints the refusal otherwise: a form that document 01 names."""
+    places = {
+        "crates/answering/src/lib.rt": ("pub fn answer(", ["read_database", "read_query", "check", "apply_steps", "run"]),
+        "crates/path_printing/src/lib.rt": ("pub fn print_path(", ["read_over"]),
+    }
+    bad = []
+    for name, (head, stages) in places.items():
+        body = (TOP / name).read_text().split(head)[1].split("\n}\n")[0]
+        for stage in stages:
+            form = rf"let (\w+) = {stage}\([^;]*\);\s*let Ok\(\w+\) = \1 else {{\s*return write_refusal\(cause\(\1\), out\);\s*}};"
+            if not re.search(form, body):
+                bad.append(f"{name}: what {stage} tells")
+    return bad
+
+
 def without_clauses(text):
     """Code with its lines, and no clause, which may take several, and no import for clauses."""
     kept, depth = [], 0
@@ -339,6 +355,7 @@ TESTS = [
     every_definition_file_says_what_it_states,
     no_public_function_without_a_contract,
     bytes_are_classed_in_one_place,
+    stages_are_taken_apart,
 ]
 
 failed = 0

@@ -26,8 +26,8 @@ fn main(rt: HostRuntime) -> io::Result<()> {
         &steps[..steps_end],
         &mut out,
     );
-    match written {
-        Ok(end) if end <= out.len() => rt.write_all(&out[..end]),
-        _ => Ok(()), // every reply has room
-    }
+    let Ok(end) = written else {
+        return Ok(()); // every reply has room
+    };
+    rt.write_all(&out[..end])
 }

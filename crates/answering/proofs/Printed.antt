@@ -28,16 +28,17 @@ use Rattle.query.proofs.CheckTests.{term_narrow}
 use Rattle.query.proofs.CheckedOver.{check_over_iff}
 use Rattle.checking.proofs.Handed.{sheet_handed, refusal_handed}
 use Rattle.text.specs.Lines.{whole}
-use Rattle.text.specs.Texts.{Table, read_nodes, query_value, database_value, answer_text}
+use Rattle.text.specs.Texts.{Table, read_nodes, query_value, database_value, answer_text, refusal_text}
 use Rattle.text.specs.Replies.{load_tables, query_reply, database_reply, store_after}
 use Rattle.rewrite.specs.Rewrite.{told}
-use Rattle.writing.specs.Rooms.{answer_room}
+use Rattle.output.specs.Replies.{write_reply, slice_after}
+use Rattle.writing.specs.Rooms.{answer_room, refusal_room}
 use Rattle.machine.specs.declared.Ran.{Ran}
 use Rattle.machine.specs.Run.{Answer, execute, ran_of, answer_after}
 use Rattle.machine.proofs.RunIsMeaning.{execute_shows}
 use Rattle.run.proofs.Meaning.{ran_finished}
-use Rattle.answering.specs.Answer.{limits, taken, apply_steps, empty_store, reply_text, answer}
-use Rattle.answering.specs.Stages.{answer_run, answer_steps, answer_query, answer_sheet, answer_book, reply_room}
+use Rattle.answering.specs.Answer.{limits, taken, apply_steps, empty_store, reply_text, answer, answer_bytes}
+use Rattle.answering.specs.Stages.{answer_run, answer_steps, answer_query, answer_sheet, answer_book, cause_of, reply_room}
 use Rattle.answering.proofs.FewRows.{few_answer}
 
 -- what a stage tells of its reply: a refusal ends the run, and what it hands on goes to the stage behind it
@@ -109,6 +110,26 @@ module _ (d : Database) (store : List ℕ) where
 pub told_as : {x y : Reply Answer} → x ≡ y → (r : Result Ran Refusal) (before after : List ℕ) → (r ≡ ran_of y) × (after ≡ answer_after y before)
     → (r ≡ ran_of x) × (after ≡ answer_after x before)
 told_as e r before after (f, g) = (f ∙ ap ran_of (sym e), g ∙ ap (λ z. answer_after z before) (sym e))
+
+pub run_ended : (r : Reply Answer) {c : Refusal} → Err c ≡ ran_of r → r ≡ refused c
+run_ended (refused r) e = cc
+run_ended (accepted a) e = let z : ◌≡◌ {A = ℕ} 0 1 = cc in absurd (omega arith)
+
+-- the refusal of a stage's answer that isn't accepted
+pub cause_is : {A : Type 0} {x : Result A Refusal} {c r : Refusal} → x ≡ Err c → r ≡ cause_of x → Err r ≡ x
+cause_is e f = ap Err (f ∙ ap cause_of e) ∙ sym e
+
+-- the line of a refusal is what is printed where a stage refuses
+module _ (sheet book steps before : List ℕ) {c : Refusal} (e : answer sheet book steps ≡ refused c) {r : Result ℕ Refusal} {after : List ℕ} where
+  pub prints : (r ≡ write_reply (refusal_text c) before) × (after ≡ slice_after (refusal_text c) before) × (length (refusal_text c) ≤ refusal_room)
+      → (r ≡ write_reply (answer_bytes sheet book steps) before) × (after ≡ slice_after (answer_bytes sheet book steps) before)
+      × (length (answer_bytes sheet book steps) ≤ reply_room)
+  prints (reply, slice, fits) =
+      let text = ap reply_text (sym e) in (
+        reply ∙ ap (λ y. write_reply y before) text,
+        slice ∙ ap (λ y. slice_after y before) text,
+        omega (arith, fits, ap length text),
+      )
 
 -- "8,192 bytes a file (else 17)"
 module _ (sheet book steps : List ℕ) where

@@ -1,7 +1,9 @@
 -- What `answer` replies from each of its stages on: "It tests file lengths, the book, the sheet, each steps line in turn, then runs".
-use Rattle.std.specs.Prelude.{List, ℕ, length}
+use Rattle.std.specs.Prelude.{List, ℕ, length, Result, Ok, Err}
 use Rattle.relation.specs.Rows.{columns}
 use Rattle.database.specs.declared.Database.{Database}
+use Rattle.database.specs.declared.Refusal.{Refusal}
+use Rattle.database.specs.declared.Refusal.TheVariants.{NoMatch}
 use Rattle.database.specs.Stored.{schema, table_rows}
 use Rattle.database.specs.Refusals.{Reply, accepted, ◌>>=◌}
 use Rattle.query.specs.declared.Query.{Query}
@@ -41,6 +43,11 @@ abbrev pub answer_book : List ℕ → List ℕ → List ℕ → Reply Answer
 answer_book sheet book steps = do
   ts ← load_tables columns book empty_store
   answer_sheet sheet steps (database_value columns ts) (store_after (accepted ts) empty_store)
+
+-- the refusal of a stage's answer; one that isn't refused has none to print
+abbrev pub cause_of : {A : Type 0} → Result A Refusal → Refusal
+cause_of (Err r) = r
+cause_of (Ok a) = NoMatch
 
 -- the bytes that `answer` lends for its reply
 abbrev pub reply_room : ℕ

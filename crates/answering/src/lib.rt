@@ -6,14 +6,12 @@ ghost use Rattle.std.specs.Prelude.{◌≡◌, ◌≤◌, length};
 ghost use Rattle.rewrite.specs.Rewrite.{told};
 ghost use Rattle.text.specs.Lines.{whole};
 ghost use Rattle.output.specs.Replies.{write_reply, slice_after};
-ghost use Rattle.machine.specs.Run.{ran_of, answer_after};
-ghost use Rattle.answering.specs.Answer.{apply_steps, answer, answer_bytes};
-ghost use Rattle.answering.specs.Stages.{reply_room};
+ghost use Rattle.answering.specs.Answer.{apply_steps, answer_bytes};
+ghost use Rattle.answering.specs.Stages.{cause_of, reply_room};
 
 use checking::check;
 use database::{Database, Refusal};
 use loading::read_database;
-use machine::Ran;
 use query::Query;
 use reading::{due_step, read_query};
 use relation::COLUMNS;
@@ -38,6 +36,16 @@ const ANSWER: usize = COLUMNS * ROWS_TAKEN;
 
 const STORE: usize = COLUMNS * STORED_TAKEN;
 
+// The refusal of a stage's answer.
+pub fn cause<T: Copy>(told: Result<T, Refusal>) -> Refusal
+    ensures { result ≡ cause_of told }
+{
+    match told {
+        Err(refusal) => refusal,
+        Ok(_) => Refusal::NoMatch,
+    }
+}
+
 // "each steps line in turn": the query that the lines leave, or the first refusal.
 fn apply_steps(
     query: Query,
@@ -57,46 +65,46 @@ fn apply_steps(
     Ok(held)
 }
 
-// The run that the three files ask for, or the first refusal; the rows of its answer come to stand in the lent ones.
-fn answered(
-    sheet: &[u8],
-    book: &[u8],
-    steps: &[u8],
-    rows: &mut [u32; ANSWER],
-) -> Result<Ran, Refusal>
-    ensures { (result ≡ ran_of (answer sheet.now book.now steps.now))
-        × (rows.new ≡ answer_after (answer sheet.now book.now steps.now) rows.old) }
-{
-    if BYTES_TAKEN < sheet.len() || BYTES_TAKEN < book.len() || BYTES_TAKEN < steps.len() {
-        return Err(Refusal::ShortSlice);
-    }
-    let mut store = [0u32; STORE];
-    let database = read_database(book, &mut store)?;
-    let query = read_query(sheet, NODES_TAKEN)?;
-    check(query, database, &store, NODES_TAKEN)?;
-    let stepped = apply_steps(query, database, &store, steps)?;
-    let mut workspace = [0u32; WORKSPACE];
-    run(
-        stepped,
-        database,
-        &store,
-        NODES_TAKEN,
-        ROWS_TAKEN,
-        LINES_TAKEN,
-        &mut workspace,
-        rows,
-    )
-}
-
 // What `answer` prints, written into a lent slice; it always fits into the bytes that the program lends.
 pub fn answer(sheet: &[u8], book: &[u8], steps: &[u8], out: &mut [u8]) -> Result<usize, Refusal>
     ensures { (result ≡ write_reply (answer_bytes sheet.now book.now steps.now) out.old)
         × (out.new ≡ slice_after (answer_bytes sheet.now book.now steps.now) out.old)
         × (length (answer_bytes sheet.now book.now steps.now) ≤ reply_room) }
 {
-    let mut rows = [0u32; ANSWER];
-    match answered(sheet, book, steps, &mut rows) {
-        Ok(ran) => write_answer(ran.columns, &rows, ran.rows, ran.lines, out),
-        Err(refusal) => write_refusal(refusal, out),
+    if BYTES_TAKEN < sheet.len() || BYTES_TAKEN < book.len() || BYTES_TAKEN < steps.len() {
+        return write_refusal(Refusal::ShortSlice, out);
     }
+    let mut store = [0u32; STORE];
+    let stored = read_database(book, &mut store);
+    let Ok(database) = stored else {
+        return write_refusal(cause(stored), out);
+    };
+    let read = read_query(sheet, NODES_TAKEN);
+    let Ok(query) = read else {
+        return write_refusal(cause(read), out);
+    };
+    let checked = check(query, database, &store, NODES_TAKEN);
+    let Ok(_) = checked else {
+        return write_refusal(cause(checked), out);
+    };
+    let stepped = apply_steps(query, database, &store, steps);
+    let Ok(left) = stepped else {
+        return write_refusal(cause(stepped), out);
+    };
+    let mut workspace = [0u32; WORKSPACE];
+    let mut rows = [0u32; ANSWER];
+    let ended = run(
+        left,
+        database,
+        &store,
+        NODES_TAKEN,
+        ROWS_TAKEN,
+        LINES_TAKEN,
+        &mut workspace,
+        &mut rows,
+    );
+    let Ok(ran) = ended else {
+        return write_refusal(cause(ended), out);
+    };
+    write_answer(ran.columns, &rows, ran.rows, ran.lines, out)
 }

@@ -1,16 +1,18 @@
 -- The lines of a plan as blocks of entries.
 use mathlib.Core.Path.{◌≡◌, refl, ap, ◌∙◌}
 use mathlib.Core.List.{List, []}
-use Prim.Native.Nat.{ℕ, min, ◌<◌}
-use lib.ListN.{length, get_or, length-take}
-use lib.Seq.{get_or-take}
+use Prim.Native.Nat.{ℕ, min, ◌-◌, ◌<◌}
+use lib.ListN.{length, get_or, replicate, length-take}
+use lib.Seq.{get_or-take, take-append_seam}
 use mir.Val.{Val}
 use denote.Laws.{Is}
 use denote.Struct.Declared.{row}
+use Rattle.relation.specs.Rows.{columns}
 use Rattle.query.specs.Lines.{node_limit}
 use Rattle.plan.specs.declared.Op.TheVariants.{Table}
 use Rattle.plan.specs.declared.Slot.{Slot}
 use Rattle.plan.specs.declared.Plan.{Plan}
+use Rattle.plan.specs.Plan.{plan_value, blank}
 use Rattle.plan.specs.contracts.Plan.{the_type}
 use Rattle.flat.specs.Flat.{slot_of, slot_entries, plan_slots}
 use Rattle.flat.proofs.Blocks.{begun}
@@ -36,3 +38,7 @@ module _ (p : Plan) where
   -- the first i lines are written
   abbrev pub begun_slots : List ℕ → ℕ → List ℕ
   begun_slots s i = begun slot_of slot_entries slot_size (plan_slots p) s (get_or s 0 0) i
+
+-- the lines of a plan that is compiled
+pub compiled_slots : (slots : List Slot) → plan_slots (plan_value columns node_limit slots) ≡ slots
+compiled_slots slots = take-append_seam slots (replicate (node_limit - length slots) (blank columns))

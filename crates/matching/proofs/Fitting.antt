@@ -2,7 +2,7 @@
 use mathlib.Core.Path.{◌≡◌, refl}
 use Rattle.std.specs.Prelude.{Option, Some, None, IfSome, option_and_then}
 use mathlib.Core.Bool.{Bool, true, false}
-use Prim.Native.Nat.{ℕ, ◌-◌}
+use Prim.Native.Nat.{ℕ, ◌-◌, ◌<◌}
 use native.Mathlib.Omega.{arith}
 use lib.Dec.{eqb}
 use Rattle.laws.specs.Lists.{when◌then◌else◌}
@@ -15,7 +15,7 @@ use Rattle.query.specs.Shape.{has_step}
 use Rattle.rewrite.specs.Places.{line_at}
 use Rattle.matching.specs.declared.Found.{Found}
 use Rattle.matching.specs.declared.Found.TheVariants.{FilterFix, FixJoin, JoinFix, FixExcept, DropFix, FixFix}
-use Rattle.matching.specs.Found.{right_of, left_of, over_fix, join_found, line_found, found_at, Fits, Placed}
+use Rattle.matching.specs.Found.{right_of, left_of, over_fix, join_found, line_found, found_at, Within, Fits, Placed}
 
 module _ (q : Query) (facts : Facts) (p : Placed q facts) (k i : ℕ) where
   abbrev FitsIf : Option Found → Type 0
@@ -64,3 +64,12 @@ module _ (q : Query) (facts : Facts) (p : Placed q facts) (k i : ℕ) where
 
   pub found_fits : IfSome (found_at q facts k i) (Fits facts i)
   found_fits = line_fits (line_at q i)
+
+-- so it ends at lines of the query
+pub fits_within : (q : Query) (facts : Facts) (i : ℕ) → i < q.count → (m : Found) → Fits facts i m → Within q m
+fits_within q facts i h (FilterFix c x) f = omega arith
+fits_within q facts i h (FixJoin x o) f = (omega arith, omega arith)
+fits_within q facts i h (JoinFix o x) f = (omega arith, omega arith)
+fits_within q facts i h (FixExcept x o) f = (omega arith, omega arith)
+fits_within q facts i h (DropFix d x) f = omega arith
+fits_within q facts i h (FixFix x y) f = (omega arith, omega arith)

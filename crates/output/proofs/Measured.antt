@@ -6,11 +6,11 @@ use Prim.Native.Nat.{ℕ, min, ◌+◌, ◌≤◌, ◌<◌}
 use native.Mathlib.Omega.{arith}
 use native.Mathlib.Nat.{zero-add}
 use native.Mathlib.Numerals.{add-one}
-use native.Mathlib.Decide.{dec_lt}
+use native.Mathlib.Decide.{dec_le, dec_lt}
 use borrow.Author.Tests.{le-leb, lt-leb, lt-ltb, le-ltb}
-use lib.Dec.{ltb}
+use lib.Dec.{leb}
 use lib.ListN.{length, drop, set, length-set}
-use lib.Seq.{sets, sets-eq}
+use lib.Seq.{sets, sets-eq, set_out}
 use Rattle.laws.specs.Lists.{when◌then◌else◌}
 use Rattle.std.specs.Prelude.{Ok, Err}
 use Rattle.database.specs.declared.Refusal.TheVariants.{ShortSlice}
@@ -29,8 +29,11 @@ measured_over m b h = rw (le-ltb m.size m.stop h)
 abbrev with_byte : Lent → ℕ → Lent
 with_byte l b = record { out = record l.out { now = set l.out.now l.at b }; at = l.at + 1 }
 
-stored_more : (l : Lent) (b : ℕ) → l.at < length l.out.now → stored l b ≡ with_byte l b
-stored_more l b h = rw (lt-ltb l.at (length l.out.now) h)
+stored_more : (l : Lent) (b : ℕ) → l.at ≤ length l.out.now → stored l b ≡ with_byte l b
+stored_more l b h = rw (le-leb l.at (length l.out.now) h)
+
+stored_over : (l : Lent) (b : ℕ) → length l.out.now < l.at → stored l b ≡ l
+stored_over l b h = rw (lt-leb l.at (length l.out.now) h)
 
 -- a text is measured up to the stop
 size_of : (text : List ℕ) (m : Measure) → m.size ≤ m.stop → (puts measured m text).size ≡ min (m.size + length text) m.stop
@@ -51,11 +54,43 @@ slice_of (b ∷ text) l h =
     ap (λ (x : Lent). (puts stored x text).out.now) (stored_more l b (omega arith))
     ∙ slice_of text (with_byte l b) (rw (length-set l.out.now l.at b) (omega arith)) ∙ ap (λ n. sets (set l.out.now l.at b) n text) (add-one l.at)
 
+-- the place behind a text, and the one past the end where it doesn't fit
+place_of : (text : List ℕ) (l : Lent) → l.at ≤ length l.out.now + 1 → (puts stored l text).at ≡ min (l.at + length text) (length l.out.now + 1)
+unfolding puts
+place_of [] l h = omega arith
+place_of (b ∷ text) l h = elim (dec_le l.at (length l.out.now)) [
+  | yes k ↦
+      ap (λ (x : Lent). (puts stored x text).at) (stored_more l b k)
+      ∙ place_of text (with_byte l b) (rw (length-set l.out.now l.at b) (omega arith))
+      ∙ rw (length-set l.out.now l.at b) (ap (λ n. min n (length l.out.now + 1)) (omega arith))
+  | no k ↦ ap (λ (x : Lent). (puts stored x text).at) (stored_over l b (omega arith)) ∙ place_of text l h ∙ omega arith
+]
+
+pub puts_place : {text : List ℕ} {l k : Lent} → l.at ≤ length l.out.now → Puts stored text l k → k.at ≡ min (l.at + length text) (length l.out.now + 1)
+puts_place {text} {l} h p = ap (λ (x : Lent). x.at) p.is ∙ place_of text l (omega arith)
+
+-- at the end there is no room for a byte
+pub puts_end : (l : Lent) (b : ℕ) → l.at ≡ length l.out.now → Puts stored (b ∷ []) l (record l { at = l.at + 1 })
+unfolding puts
+puts_end l b e = record { is = sym (stored_more l b (omega arith) ∙ (λ i. record { out = record l.out { now = set_out l.out.now l.at b (omega arith) i }; at = l.at + 1 })) }
+
+length_of : (text : List ℕ) (l : Lent) → length (puts stored l text).out.now ≡ length l.out.now
+unfolding puts
+length_of [] l = refl
+length_of (b ∷ text) l = length_of text (stored l b) ∙ by_test (leb l.at (length l.out.now))
+  where
+    by_test : (t : Bool) → length (when t then with_byte l b else l).out.now ≡ length l.out.now
+    by_test true = length-set l.out.now l.at b
+    by_test false = refl
+
+pub puts_length : {text : List ℕ} {l k : Lent} → Puts stored text l k → length k.out.now ≡ length l.out.now
+puts_length {text} {l} p = ap (λ (x : Lent). length x.out.now) p.is ∙ length_of text l
+
 -- the slice stays the one that was lent
 reference_of : (text : List ℕ) (l : Lent) → l.out.ghost_name ≡ (puts stored l text).out.ghost_name
 unfolding puts
 reference_of [] l = refl
-reference_of (b ∷ text) l = by_test (ltb l.at (length l.out.now)) ∙ reference_of text (stored l b)
+reference_of (b ∷ text) l = by_test (leb l.at (length l.out.now)) ∙ reference_of text (stored l b)
   where
     by_test : (t : Bool) → l.out.ghost_name ≡ (when t then with_byte l b else l).out.ghost_name
     by_test true = refl

@@ -1,5 +1,5 @@
 -- Where the bytes of a text go. A text is put byte after byte, and each byte leaves a sink behind it.
-use Rattle.std.specs.Prelude.{◌≡◌, List, [], ◌∷◌, ℕ, ◌+◌, ltb, length, set}
+use Rattle.std.specs.Prelude.{◌≡◌, List, [], ◌∷◌, ℕ, ◌+◌, leb, ltb, length, set}
 use Rattle.laws.specs.Lists.{when◌then◌else◌}
 use Rattle.output.specs.declared.Measure.{Measure}
 use Rattle.output.specs.declared.Lent.{Lent}
@@ -21,9 +21,9 @@ measured m b = record { stop = m.stop; size = when ltb m.size m.stop then m.size
 abbrev pub measure_of : List ℕ → Measure
 measure_of slice = record { stop = length slice + 1; size = 0 }
 
--- one byte more, within the slice
+-- one byte more, within the slice; at its end the place goes one past it, which says that a text doesn't fit, and then stays
 abbrev pub stored : Lent → ℕ → Lent
 stored l b =
-    when ltb l.at (length l.out.now)
+    when leb l.at (length l.out.now)
     then record { out = record l.out { now = set l.out.now l.at b }; at = l.at + 1 }
     else l

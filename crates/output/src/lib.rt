@@ -1,7 +1,7 @@
 // Putting bytes, numbers and lines into a sink: one that only measures a text, or a lent slice that holds it.
 #![tactic(auto)]
 
-ghost use Rattle.std.specs.Prelude.{◌≡◌, ℕ, Bool, true, leb, length, [], ◌∷◌, ◌++◌};
+ghost use Rattle.std.specs.Prelude.{◌≡◌, ℕ, Bool, true, leb, ltb, length, [], ◌∷◌, ◌++◌};
 ghost use Rattle.std.proofs.Common.{rules};
 ghost use Rattle.text.specs.Numbers.{digits, comma_digits};
 ghost use Rattle.text.specs.Texts.{line_text};
@@ -59,7 +59,7 @@ impl Sink for Measure {
     }
 }
 
-// Holds the bytes of a text from a place on, while there is room.
+// Holds the bytes of a text from a place on, while there is room. A place past the end says that a text didn't fit.
 #[derive(Drop)]
 pub struct Lent<'a> {
     pub out: &'a mut [u8],
@@ -69,19 +69,21 @@ pub struct Lent<'a> {
 impl Sink for Lent<'_> {
     ghost put = { stored };
 
-    ghost full = { λ l. leb (length l.out.now) l.at };
+    ghost full = { λ l. ltb (length l.out.now) l.at };
 
     ghost settled = { Prim.search rules };
 
     fn put_byte(&mut self, b: u8) {
         if self.at < self.out.len() {
             self.out[self.at] = b;
+        }
+        if self.at <= self.out.len() {
             self.at += 1;
         }
     }
 
     fn is_over(&self) -> bool {
-        self.out.len() <= self.at
+        self.out.len() < self.at
     }
 }
 

@@ -1,3 +1,4 @@
 pub mod PassFound
 pub mod PassWritten
 pub mod PassExact
+pub mod Judging

@@ -20,8 +20,9 @@ fn main(rt: HostRuntime) -> io::Result<()> {
     let mut out = [0u8; REPLY];
     let path_end = read_file(&rt, "path.txt", &mut path);
     let book_end = read_file(&rt, "book.txt", &mut book);
-    match engine::print_path(&path[..path_end], &book[..book_end], &mut out) {
-        Ok(end) if end <= out.len() => rt.write_all(&out[..end]),
-        _ => Ok(()), // every reply has room
-    }
+    let written = engine::print_path(&path[..path_end], &book[..book_end], &mut out);
+    let Ok(end) = written else {
+        return Ok(()); // every reply has room
+    };
+    rt.write_all(&out[..end])
 }

@@ -90,7 +90,7 @@ once_loaded path ts = path_nodes columns node_limit path (database_value columns
 abbrev once_short : List ℕ → List ℕ → Reply (List Node)
 once_short path book = load_tables columns book empty_store >>= once_loaded path
 
-sheet_fits : (path book : List ℕ) (ns : List Node) → path_over path book ≡ accepted ns → length (query_text ns) ≤ reply_room
+pub sheet_fits : (path book : List ℕ) (ns : List Node) → path_over path book ≡ accepted ns → length (query_text ns) ≤ reply_room
 unfolding path_over
 sheet_fits path book ns e =
     let room : Reply (Unit {0}) = require (leb (length book) taken.bytes) ShortSlice in

@@ -7,7 +7,7 @@ ghost use Rattle.output.specs.Replies.{write_reply, slice_after};
 ghost use Rattle.answering.specs.Stages.{reply_room};
 ghost use Rattle.path_printing.specs.Printed.{path_over, path_bytes};
 
-use answering::{BYTES_TAKEN, STORED_TAKEN};
+use answering::{BYTES_TAKEN, STORED_TAKEN, cause};
 use database::Refusal;
 use loading::read_database;
 use path_queries::read_path;
@@ -38,8 +38,9 @@ pub fn print_path(path: &[u8], book: &[u8], out: &mut [u8]) -> Result<usize, Ref
         × (out.new ≡ slice_after (path_bytes path.now book.now) out.old)
         × (length (path_bytes path.now book.now) ≤ reply_room) }
 {
-    match read_over(path, book) {
-        Ok(query) => write_query(query, out),
-        Err(refusal) => write_refusal(refusal, out),
-    }
+    let read = read_over(path, book);
+    let Ok(query) = read else {
+        return write_refusal(cause(read), out);
+    };
+    write_query(query, out)
 }

@@ -11,7 +11,7 @@ use lib.Seq.{set_at, append_snoc, drop_at, take_at}
 use borrow.Author.Tests.{le-leb, lt-leb}
 use Rattle.std.specs.Prelude.{Option, Some, None}
 use Rattle.laws.specs.Lists.{when◌then◌else◌}
-use Rattle.laws.specs.Options.{◌then◌}
+use Rattle.laws.specs.Options.{mapped, ◌then◌}
 use Rattle.laws.proofs.Fronts.{drop_next}
 use Rattle.query.specs.declared.Node.{Node}
 use Rattle.query.specs.declared.Line.{Line}
@@ -22,6 +22,16 @@ use Rattle.reading.specs.QueryReading.{stored}
 use Rattle.reading.proofs.ReaderLawsQuery.{stored_more}
 use Rattle.path_sheets.specs.declared.Sheet.{Sheet}
 use Rattle.path_sheets.specs.Put.{put_line, put_all, raised_low, again_lines, replaced}
+
+-- lines put in place: what they leave where they found room, and that they found none
+pub left_some : {A : Type 0} {r : Option (Unit {0})} {o : Option A} {u : Unit {0}} (a : A) → mapped (λ (_ : Unit {0}). a) r ≡ o → r ≡ Some u → o ≡ Some a
+left_some a e f = sym e ∙ ap (mapped (λ (_ : Unit {0}). a)) f
+
+pub left_none : {A : Type 0} {r : Option (Unit {0})} {o : Option A} (a : A) → mapped (λ (_ : Unit {0}). a) r ≡ o → r ≡ None → o ≡ None
+left_none a e f = sym e ∙ ap (mapped (λ (_ : Unit {0}). a)) f
+
+pub none_left : {A B : Type 0} {r : Option A} {o : Option B} (f : A → B) → r ≡ None → o ≡ None → mapped f r ≡ o
+none_left f e h = ap (mapped f) e ∙ sym h
 
 -- one line is a list of one
 pub put_single : (s : Sheet) (x : Node) → put_all s (x ∷ []) ≡ put_line s x

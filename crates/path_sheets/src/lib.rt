@@ -56,11 +56,11 @@ pub fn write_path(path: &[u8], limit: usize) -> Result<Query, Refusal>
         if i == PATH_BYTES {
             return Err(Refusal::NodeCount(0));
         }
-        writing = writing.next(sign_of(b)).ok_or(Refusal::NodeCount(0))?;
+        writing.next(sign_of(b)).ok_or(Refusal::NodeCount(0))?;
     }
-    let whole = writing
+    writing
         .sheet
         .path_end(writing.before)
         .ok_or(Refusal::NodeCount(0))?;
-    Ok(whole.query)
+    Ok(writing.sheet.query)
 }

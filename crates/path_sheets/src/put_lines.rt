@@ -1,5 +1,6 @@
 // Lines put behind a sheet's, as far as there is room.
 ghost use Rattle.std.specs.Prelude.{◌≡◌, [], ◌∷◌, ◌+◌, ◌-◌, ◌≤◌, min};
+ghost use Rattle.laws.specs.Options.{mapped};
 ghost use Rattle.query.specs.Lines.{node_limit};
 ghost use Rattle.paths.specs.Patterns.{to_middle, from_middle, exchange};
 ghost use Rattle.paths.specs.Written.{turn_end};
@@ -10,131 +11,134 @@ use algebra::Pairing;
 use query::{Line, NODES, Node, Query};
 use reading::with_node;
 
+// The lines are put in place. Where one finds no room the answer is None, and of what the sheet then holds nothing is said.
 impl Sheet {
     // One line more, if there is room.
     #[tactic(auto, unfolding(crate::specs::Put::put_line))]
-    pub fn put(self, node: Node) -> Option<Sheet>
-        ensures { result ≡ put_line self node }
+    pub fn put(&mut self, node: Node) -> Option<()>
+        ensures { mapped (λ _. self.new) result ≡ put_line self.old node }
     {
         if self.limit <= self.query.count {
             return None;
         }
-        Some(Sheet {
-            query: with_node(self.query, node),
-            ..self
-        })
+        self.query = with_node(self.query, node);
+        Some(())
     }
 
     // Behind the left side of a sequence.
     #[tactic(auto, unfolding(crate::specs::Put::put_all))]
-    pub fn to_middle(self) -> Option<Sheet>
-        ensures { result ≡ put_all self to_middle }
+    pub fn to_middle(&mut self) -> Option<()>
+        ensures { mapped (λ _. self.new) result ≡ put_all self.old to_middle }
     {
-        self.put(Node::Copy(1, 2))?.put(Node::Drop(1))
+        self.put(Node::Copy(1, 2))?;
+        self.put(Node::Drop(1))
     }
 
     // Behind its right side.
     #[tactic(auto, unfolding(crate::specs::Put::put_all))]
-    fn from_middle(self) -> Option<Sheet>
-        ensures { result ≡ put_all self from_middle }
+    fn from_middle(&mut self) -> Option<()>
+        ensures { mapped (λ _. self.new) result ≡ put_all self.old from_middle }
     {
-        let renamed = self.put(Node::Copy(0, 2))?.put(Node::Drop(0))?;
-        renamed.put(Node::Pair(Pairing::Join))?.put(Node::Drop(2))
+        self.put(Node::Copy(0, 2))?;
+        self.put(Node::Drop(0))?;
+        self.put(Node::Pair(Pairing::Join))?;
+        self.put(Node::Drop(2))
     }
 
     // Behind the operand of an inverse.
     #[tactic(auto, unfolding(crate::specs::Put::put_all))]
-    fn exchange(self) -> Option<Sheet>
-        ensures { result ≡ put_all self exchange }
+    fn exchange(&mut self) -> Option<()>
+        ensures { mapped (λ _. self.new) result ≡ put_all self.old exchange }
     {
-        let first = self.put(Node::Copy(0, 2))?.put(Node::Drop(0))?;
-        let second = first.put(Node::Copy(1, 0))?.put(Node::Drop(1))?;
-        second.put(Node::Copy(2, 1))?.put(Node::Drop(2))
+        self.put(Node::Copy(0, 2))?;
+        self.put(Node::Drop(0))?;
+        self.put(Node::Copy(1, 0))?;
+        self.put(Node::Drop(1))?;
+        self.put(Node::Copy(2, 1))?;
+        self.put(Node::Drop(2))
     }
 
     #[tactic(auto, unfolding(crate::specs::Put::put_all))]
-    fn turn_end(self, inverted: bool) -> Option<Sheet>
-        ensures { result ≡ put_all self (turn_end inverted) }
+    fn turn_end(&mut self, inverted: bool) -> Option<()>
+        ensures { mapped (λ _. self.new) result ≡ put_all self.old (turn_end inverted) }
     {
-        if inverted {
-            self.exchange()
-        } else {
-            Some(self)
-        }
+        if inverted { self.exchange() } else { Some(()) }
     }
 
     #[tactic(auto, unfolding(crate::specs::Put::put_all))]
-    fn middle_end(self, sequence: bool) -> Option<Sheet>
-        ensures { result ≡ put_all self (lines_if sequence from_middle) }
+    fn middle_end(&mut self, sequence: bool) -> Option<()>
+        ensures { mapped (λ _. self.new) result ≡ put_all self.old (lines_if sequence from_middle) }
     {
         if sequence {
             self.from_middle()
         } else {
-            Some(self)
+            Some(())
         }
     }
 
     #[tactic(auto, unfolding(crate::specs::Put::put_all), using(crate::proofs::PutLines::put_single))]
-    fn union_end(self, alternatives: bool) -> Option<Sheet>
-        ensures { result ≡ put_all self (lines_if alternatives (Node.Pair Pairing.Union ∷ [])) }
+    fn union_end(&mut self, alternatives: bool) -> Option<()>
+        ensures { mapped (λ _. self.new) result ≡ put_all self.old (lines_if alternatives (Node.Pair Pairing.Union ∷ [])) }
     {
         if alternatives {
             self.put(Node::Pair(Pairing::Union))
         } else {
-            Some(self)
+            Some(())
         }
     }
 
     // The lines that end a sequence.
     #[tactic(auto, using(crate::proofs::PutLines::put_append))]
-    pub fn sequence_end(self, before: Before) -> Option<Sheet>
-        ensures { result ≡ put_all self (sequence_last before) }
+    pub fn sequence_end(&mut self, before: Before) -> Option<()>
+        ensures { mapped (λ _. self.new) result ≡ put_all self.old (sequence_last before) }
     {
-        self.turn_end(before.inverted)?.middle_end(before.sequence)
+        self.turn_end(before.inverted)?;
+        self.middle_end(before.sequence)
     }
 
     // The lines that end a whole path.
     #[tactic(auto, using(crate::proofs::PutLines::put_append))]
-    pub fn path_end(self, before: Before) -> Option<Sheet>
-        ensures { result ≡ put_all self (path_last before) }
+    pub fn path_end(&mut self, before: Before) -> Option<()>
+        ensures { mapped (λ _. self.new) result ≡ put_all self.old (path_last before) }
     {
-        self.sequence_end(before)?.union_end(before.alternatives)
+        self.sequence_end(before)?;
+        self.union_end(before.alternatives)
     }
 
     // The lines of a query from an index on, up to another, with their numbers raised.
-    fn put_again(self, source: Query, first: usize, end: usize, by: usize) -> Option<Sheet>
+    fn put_again(&mut self, source: &Query, first: usize, end: usize, by: usize) -> Option<()>
         requires { (end ≤ node_limit) × (by ≤ node_limit) }
-        ensures { result ≡ put_all self (again_lines source first end by) }
+        ensures { mapped (λ _. self.new) result ≡ put_all self.old (again_lines source.now first end by) }
     {
-        let mut out = self;
         for i in first..end {
-            out = out.put(raise_line(source.lines[i].node, by))?;
+            self.put(raise_line(source.lines[i].node, by))?;
         }
-        Some(out)
+        Some(())
     }
 
     // Behind the operand of a plus, which begins at the line first: v is the plus's number.
     #[tactic(auto, unfolding(crate::specs::Put::put_all), using(crate::proofs::PutLines::put_append, crate::proofs::PutLines::put_single))]
-    pub fn plus_end(self, first: usize, by: usize, v: u32) -> Option<Sheet>
+    pub fn plus_end(&mut self, first: usize, by: usize, v: u32) -> Option<()>
         requires { by ≤ node_limit }
-        ensures { result ≡ put_all self (plus_lines self.query first by v) }
+        ensures { mapped (λ _. self.new) result ≡ put_all self.old (plus_lines self.old.query first by v) }
     {
-        let end = self.query.count.min(NODES);
-        let begun = self.put(Node::Var(v))?.to_middle()?;
-        let copied = begun.put_again(self.query, first, end, by)?;
-        copied.from_middle()?.put(Node::Fix(v))
+        let source = self.query;
+        let end = source.count.min(NODES);
+        self.put(Node::Var(v))?;
+        self.to_middle()?;
+        self.put_again(&source, first, end, by)?;
+        self.from_middle()?;
+        self.put(Node::Fix(v))
     }
 
     // The sheet with another line at an index.
-    pub fn replace(self, at: usize, node: Node) -> Sheet
-        ensures { result ≡ replaced self at node }
+    pub fn replace(&mut self, at: usize, node: Node)
+        ensures { self.new ≡ replaced self.old at node }
     {
         if NODES <= at {
-            return self;
+            return;
         }
-        let mut another = self;
-        another.query.lines[at] = Line { node };
-        another
+        self.query.lines[at] = Line { node };
     }
 }
 

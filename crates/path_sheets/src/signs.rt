@@ -1,5 +1,6 @@
 // What each sign of an accepted path does to what is written.
 ghost use Rattle.std.specs.Prelude.{◌≡◌};
+ghost use Rattle.laws.specs.Options.{mapped};
 ghost use Rattle.path_sheets.specs.BySign.{no_before, no_writing, due_with, ended_with, by_digit, by_bar, by_slash, by_caret, by_plus, by_enter, by_leave, by_sign};
 
 use super::{Before, Sheet, Writing};
@@ -38,135 +39,131 @@ pub fn no_writing(limit: usize) -> Writing
     }
 }
 
+// Each step is made in place. Where its lines find no room the answer is None, and of what is then written nothing is said.
 impl Writing {
-    // An operand is due behind these lines.
-    fn due(self, sheet: Sheet, alternatives: bool, sequence: bool) -> Writing
-        ensures { result ≡ due_with self sheet alternatives sequence }
+    // An operand is due behind the lines.
+    fn due(&mut self, alternatives: bool, sequence: bool)
+        ensures { self.new ≡ due_with self.old self.old.sheet alternatives sequence }
     {
-        Writing {
-            sheet,
-            ended: false,
-            before: Before {
-                alternatives,
-                sequence,
-                inverted: false,
-                first: sheet.query.count,
-                number: self.numbers,
-            },
-            ..self
-        }
+        self.ended = false;
+        self.before = Before {
+            alternatives,
+            sequence,
+            inverted: false,
+            first: self.sheet.query.count,
+            number: self.numbers,
+        };
     }
 
-    // An operand has ended with these lines and recursions.
-    fn end(self, sheet: Sheet, numbers: usize) -> Writing
-        ensures { result ≡ ended_with self sheet numbers }
+    // An operand has ended with the lines, and with these recursions.
+    fn end(&mut self, numbers: usize)
+        ensures { self.new ≡ ended_with self.old self.old.sheet numbers }
     {
-        Writing {
-            sheet,
-            numbers,
-            ended: true,
-            ..self
-        }
+        self.numbers = numbers;
+        self.ended = true;
     }
 
     // A name, or the second digit of one, whose line takes the place of the first one's.
-    fn digit(self, d: u8) -> Option<Writing>
-        ensures { result ≡ by_digit self d }
+    fn digit(&mut self, d: u8) -> Option<()>
+        ensures { mapped (λ _. self.new) result ≡ by_digit self.old d }
     {
         let t = u32::from(d);
-        let sheet = if self.ended {
-            self.sheet.replace(self.before.first, Node::Table(10 + t))
+        if self.ended {
+            self.sheet.replace(self.before.first, Node::Table(10 + t));
         } else {
-            self.sheet.put(Node::Table(t))?
-        };
-        Some(self.end(sheet, self.numbers))
+            self.sheet.put(Node::Table(t))?;
+        }
+        self.ended = true;
+        Some(())
     }
 
     // `|`
-    fn bar(self) -> Option<Writing>
-        ensures { result ≡ by_bar self }
+    fn bar(&mut self) -> Option<()>
+        ensures { mapped (λ _. self.new) result ≡ by_bar self.old }
     {
-        let sheet = self.sheet.path_end(self.before)?;
-        Some(self.due(sheet, true, false))
+        self.sheet.path_end(self.before)?;
+        self.due(true, false);
+        Some(())
     }
 
     // `/`
     #[tactic(auto, using(crate::proofs::PutLines::put_append))]
-    fn slash(self) -> Option<Writing>
-        ensures { result ≡ by_slash self }
+    fn slash(&mut self) -> Option<()>
+        ensures { mapped (λ _. self.new) result ≡ by_slash self.old }
     {
-        let sheet = self.sheet.sequence_end(self.before)?.to_middle()?;
-        Some(self.due(sheet, self.before.alternatives, true))
+        self.sheet.sequence_end(self.before)?;
+        self.sheet.to_middle()?;
+        self.due(self.before.alternatives, true);
+        Some(())
     }
 
     // `^`
-    fn caret(self) -> Writing
-        ensures { result ≡ by_caret self }
+    fn caret(&mut self)
+        ensures { self.new ≡ by_caret self.old }
     {
-        Writing {
-            ended: false,
-            before: Before {
-                inverted: true,
-                ..self.before
-            },
-            ..self
-        }
+        self.ended = false;
+        self.before.inverted = true;
     }
 
     // `+`: the operand's recursions come twice, and the plus's own behind them.
-    fn plus(self) -> Option<Writing>
-        ensures { result ≡ by_plus self }
+    fn plus(&mut self) -> Option<()>
+        ensures { mapped (λ _. self.new) result ≡ by_plus self.old }
     {
         let numbers = self.numbers.min(NODES);
         let by = numbers.saturating_sub(self.before.number);
         let v = numbers + by;
-        let sheet = self.sheet.plus_end(self.before.first, by, v as u32)?;
-        Some(self.end(sheet, v + 1))
+        self.sheet.plus_end(self.before.first, by, v as u32)?;
+        self.end(v + 1);
+        Some(())
     }
 
     // `(`
-    fn enter(self) -> Writing
-        ensures { result ≡ by_enter self }
+    fn enter(&mut self)
+        ensures { self.new ≡ by_enter self.old }
     {
         let depth = self.depth;
         if PATH_BYTES <= depth {
-            return self;
+            return;
         }
-        let mut inner = self.due(self.sheet, false, false);
-        inner.outer[depth] = self.before;
-        inner.depth = depth + 1;
-        inner
+        self.outer[depth] = self.before;
+        self.depth = depth + 1;
+        self.due(false, false);
     }
 
     // `)`: the parenthesis is an operand behind what stands before it.
-    fn leave(self) -> Option<Writing>
-        ensures { result ≡ by_leave self }
+    fn leave(&mut self) -> Option<()>
+        ensures { mapped (λ _. self.new) result ≡ by_leave self.old }
     {
         let depth = self.depth.saturating_sub(1);
         if PATH_BYTES <= depth {
-            return Some(self);
+            return Some(());
         }
-        let sheet = self.sheet.path_end(self.before)?;
-        Some(Writing {
-            before: self.outer[depth],
-            depth,
-            ..self.end(sheet, self.numbers)
-        })
+        self.sheet.path_end(self.before)?;
+        self.end(self.numbers);
+        self.before = self.outer[depth];
+        self.depth = depth;
+        Some(())
     }
 
     // One byte more, by its sign, if its lines find room.
-    pub fn next(self, sign: Sign) -> Option<Writing>
-        ensures { result ≡ by_sign self sign }
+    pub fn next(&mut self, sign: Sign) -> Option<()>
+        ensures { mapped (λ _. self.new) result ≡ by_sign self.old sign }
     {
         match sign {
             Sign::Digit(d) => self.digit(d),
             Sign::Alternate => self.bar(),
             Sign::Follow => self.slash(),
-            Sign::Invert => Some(self.caret()),
+            Sign::Invert => {
+                self.caret();
+                Some(())
+            }
             Sign::Repeat => self.plus(),
-            Sign::Enter => Some(self.enter()),
+            Sign::Enter => {
+                self.enter();
+                Some(())
+            }
             Sign::Leave => self.leave(),
-            Sign::Other => Some(self),
+            Sign::Other => Some(()),
         }
     }
 }

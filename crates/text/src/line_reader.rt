@@ -61,7 +61,8 @@ pub fn read_one(line: &[u8], key: &[u8]) -> Option<u32>
     ensures { result ≡ if_one (λ n. n) (numbers_behind key.now line.now) }
 {
     if starts(line, key) {
-        read_number(&line[key.len()..])
+        let (at, end) = (key.len(), line.len());
+        read_number(&line[at..end])
     } else {
         None
     }
