@@ -33,6 +33,15 @@ def the_library_is_built():
     return runs("rt", "lib", folder=CRATE) is not None
 
 
+def the_library_needs_two_names():
+    """What it needs from outside, so that a program without a C library can give it. An archive without a list of names is a failure too."""
+    printed = runs("nm", "-u", LIBRARY)
+    needed = re.findall(r"^ +U (\S+)$", printed or "", re.M)
+    if sorted(set(needed)) != ["memcpy", "memset"]:
+        print("needs", *sorted(set(needed)))
+    return sorted(set(needed)) == ["memcpy", "memset"]
+
+
 def the_header_is_c_and_cpp():
     header = TOP / "include" / "capeshard.h"
     return all(runs("cc", "-fsyntax-only", "-x", *language, *WARNINGS, header) is not None for language in (["c", "-std=c99"], ["c++", "-std=c++11"]))
@@ -102,6 +111,7 @@ def the_wrapper_passes_its_tests():
 
 TESTS = [
     the_library_is_built,
+    the_library_needs_two_names,
     the_header_is_c_and_cpp,
     the_wrapper_declares_the_calls_of_the_header,
     the_numbers_of_both_agree,
